@@ -1,0 +1,4 @@
+pub mod terms
+pub mod unification
+pub mod search
+pub mod texts

@@ -1,0 +1,6 @@
+pub mod Apply
+pub mod Built
+pub mod Occurs
+pub mod Ready
+pub mod Renamed
+pub mod Term
