@@ -1,3 +1,4 @@
+pub mod formers
 pub mod terms
 pub mod unification
 pub mod search

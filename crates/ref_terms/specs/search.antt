@@ -7,6 +7,7 @@ pub mod Events
 pub mod Fault
 pub mod FirstRule
 pub mod Formula
+pub mod Front
 pub mod GoalMove
 pub mod Instance
 pub mod Joint

@@ -1,10 +1,11 @@
 -- Integers, and expressions of them.
 use Rattle.std.specs.Prelude.{◌^◌, ◌-◌, Bool, true, false, cond, not, ◌&&◌, ℤ, pos, negsuc, ◌+ℤ◌, ◌-ℤ◌, ◌*ℤ◌, int_lt, Option, Some, None}
 use Rattle.ref_terms.specs.terms.Term.{Term, At, App, Con, Int}
-use Rattle.ref_terms.specs.unification.Spine.{Shape, Abstraction, Rigid, Flex, shape}
-use Rattle.ref_terms.specs.unification.Spine as s
+use Rattle.ref_terms.specs.unification.Spine.{Shape, Redex as RedexShape, shape}
 use Rattle.ref_terms.specs.search.Reserved.{Reserved, Plus_word, Minus_word, Times_word, word_of}
-use Rattle.ref_terms.specs.search.Fault.{Fault, Redex, Number, Judged, Good, Bad}
+use Rattle.ref_terms.specs.search.Fault.{Judged, Good, Bad}
+use Rattle.ref_terms.specs.declared.fault.Fault.{Fault}
+use Rattle.ref_terms.specs.declared.fault.Fault.TheVariants.{Redex, Number}
 
 -- an integer without arguments
 abbrev pub integer_of : Term → Option ℤ
@@ -13,7 +14,7 @@ integer_of _ = None
 
 -- a stuck abstraction is another fault than any other term
 abbrev pub shape_fault : Shape → Fault
-shape_fault s.Redex = Redex
+shape_fault RedexShape = Redex
 shape_fault _ = Number
 
 -- the fault of a term that should be a number

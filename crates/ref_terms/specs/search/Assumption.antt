@@ -2,11 +2,11 @@
 use Rattle.std.specs.Prelude.{ℕ, zero, suc, ◌+◌, cond, nat_lt, List, [], ◌∷◌, map, Option, Some, None}
 use Rattle.ref_terms.specs.terms.Term.{Term, Lam, At, App, Con, Name}
 use Rattle.ref_terms.specs.terms.Apply.{apply}
-use Rattle.ref_terms.specs.unification.Spine.{Shape, Abstraction, Rigid, Flex, shape}
-use Rattle.ref_terms.specs.unification.Spine as s
+use Rattle.ref_terms.specs.unification.Spine.{Shape, Abstraction, Redex as RedexShape, Rigid, Flex, shape}
 use Rattle.ref_terms.specs.unification.Closing.{close}
 use Rattle.ref_terms.specs.search.Reserved.{Reserved, And_word, Implies_word, If_word, Pi_word, Nonvar_word, Distinct_word, word_of, if_term, implies_term, pi_term}
-use Rattle.ref_terms.specs.search.Fault.{Flex_clause, Not_goal, Redex, Judged, Good, Bad, judged_map, judged_append}
+use Rattle.ref_terms.specs.search.Fault.{Judged, Good, Bad, judged_map, judged_append}
+use Rattle.ref_terms.specs.declared.fault.Fault.TheVariants.{FlexClause, NotGoal, Redex}
 
 -- its parameters are the names from `scope` on; outer conditions stand first
 pub record Assumption : Type 0 where
@@ -39,16 +39,16 @@ clause_form read scope bound c (Some Pi_word) (f ∷ []) t = judged_map (map (qu
 clause_form read scope bound c None ts t = atom_clause scope bound c t
 clause_form read scope bound c (Some Nonvar_word) ts t = atom_clause scope bound c t
 clause_form read scope bound c (Some Distinct_word) ts t = atom_clause scope bound c t
-clause_form read scope bound c (Some _) ts t = Bad Not_goal
+clause_form read scope bound c (Some _) ts t = Bad NotGoal
 
 -- a clause by the shape of its term
 abbrev pub clause_at : (ℕ → Term → Judged (List Assumption)) → (scope bound : ℕ) → Term → Shape → Judged (List Assumption)
 clause_at read scope bound t (Rigid (Con c) ts) = clause_form read scope bound c (word_of c) ts t
-clause_at read scope bound t (Rigid (Name n) ts) = cond (nat_lt n scope) (Bad Not_goal) (Bad Flex_clause)
-clause_at read scope bound t (Rigid _ ts) = Bad Not_goal
-clause_at read scope bound t (Flex v ts) = Bad Flex_clause
-clause_at read scope bound t s.Redex = Bad Redex
-clause_at read scope bound t Abstraction = Bad Not_goal
+clause_at read scope bound t (Rigid (Name n) ts) = cond (nat_lt n scope) (Bad NotGoal) (Bad FlexClause)
+clause_at read scope bound t (Rigid _ ts) = Bad NotGoal
+clause_at read scope bound t (Flex v ts) = Bad FlexClause
+clause_at read scope bound t RedexShape = Bad Redex
+clause_at read scope bound t Abstraction = Bad NotGoal
 
 -- how many constants stand in a term: each form that is read uses up one
 abbrev pub constants : Term → ℕ
@@ -59,7 +59,7 @@ constants (App f a) = constants f + constants a
 
 -- with so many forms to read at most, and so many parameters so far
 abbrev pub read_at : ℕ → (scope bound : ℕ) → Term → Judged (List Assumption)
-read_at zero scope bound t = clause_at (λ k d. Bad Not_goal) scope bound t (shape 0 t)
+read_at zero scope bound t = clause_at (λ k d. Bad NotGoal) scope bound t (shape 0 t)
 read_at (suc n) scope bound t = clause_at (read_at n scope) scope bound t (shape 0 t)
 
 -- the clauses of a term under so many names, or the leftmost fault

@@ -3,6 +3,7 @@ use Rattle.std.specs.Prelude.{ℕ, List, [], ◌∷◌, map}
 use Rattle.ref_terms.specs.terms.Term.{Term}
 use Rattle.ref_terms.specs.terms.Occurs.{inst}
 use Rattle.ref_terms.specs.unification.Unify.{Binding, Equation}
+use Rattle.ref_terms.specs.declared.path.Choice.{Choice}
 use Rattle.ref_terms.specs.search.Assumption.{Assumption}
 
 -- the names in scope are the numbers below `names`; the barrier is a number of alternatives
@@ -24,11 +25,6 @@ pub record Constraint : Type 0 where
 pub record Fired : Type 0 where
   pub rule : ℕ
   pub constraints : List ℕ
-
--- a choice that led to a branch
-pub data Choice : Type 0 where
-  by_clause by_assumption : ℕ → Choice
-  left_side right_side : Choice
 
 -- constraints in order of declaration, numbered by it; choices newest first
 pub record Branch : Type 0 where

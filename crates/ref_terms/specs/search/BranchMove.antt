@@ -2,9 +2,10 @@
 use Rattle.std.specs.Prelude.{ℕ, suc, ◌-◌, ℤ, Bool, true, false, List, [], ◌∷◌, ◌++◌, length, drop, Option, Some, None}
 use Rattle.ref_terms.specs.terms.Term.{Term, Lam, At, Int}
 use Rattle.ref_terms.specs.terms.Apply.{apply, open_with}
-use Rattle.ref_terms.specs.unification.Unify.{Equation, Problem, Answer, Solved, Clashed}
-use Rattle.ref_terms.specs.unification.Unify as un
-use Rattle.ref_terms.specs.search.Fault.{Fault, Not_goal, of_unification, Judged, Good, Bad}
+use Rattle.ref_terms.specs.unification.Unify.{Answer, Solved, Clashed, Faulted as UnifyFaulted}
+use Rattle.ref_terms.specs.search.Fault.{of_unification, Judged, Good, Bad}
+use Rattle.ref_terms.specs.declared.fault.Fault.{Fault}
+use Rattle.ref_terms.specs.declared.fault.Fault.TheVariants.{NotGoal}
 use Rattle.ref_terms.specs.search.Program.{Program, modes_of}
 use Rattle.ref_terms.specs.search.Assumption.{Assumption}
 use Rattle.ref_terms.specs.search.Branch.{Goal, Branch, bound_branch, with_goals}
@@ -34,7 +35,7 @@ goes_or_fails false b alts = fails alts
 abbrev pub after_unifying : Branch → List Alternative → Answer → Move
 after_unifying b alts (Solved q) = goes_on (bound_branch q.bindings q.next_var b) alts
 after_unifying b alts (Clashed knot) = fails alts
-after_unifying b alts (un.Faulted f) = faults (of_unification f)
+after_unifying b alts (UnifyFaulted f) = faults (of_unification f)
 
 -- unification of two terms under so many names; the branch has the goals that are left
 abbrev pub unifies : Unification → (names : ℕ) → Term → Term → Branch → List Alternative → Move
@@ -57,7 +58,7 @@ assumes g t b gs alts (Bad e) = faults e
 
 -- the constraint goes last into the store
 abbrev pub suspends : Goal → Term → Branch → List Goal → List Alternative → Option (List Term) → Move
-suspends g t b gs alts None = faults Not_goal
+suspends g t b gs alts None = faults NotGoal
 suspends g t b gs alts (Some keys) = goes_on (record b {
   goals = gs;
   store = b.store ++ record { number = suc b.declared; names = g.names; assumptions = g.assumptions; term = t; keys = keys } ∷ [];

@@ -1,17 +1,19 @@
 -- The clauses of a call, and its faults.
 use Rattle.std.specs.Prelude.{ℕ, suc, Bool, cond, nat_eq, List, [], ◌∷◌, ◌++◌, length, filter, Option, Some, None}
 use Rattle.ref_terms.specs.terms.Term.{Term}
-use Rattle.ref_terms.specs.search.Fault.{Fault, Unknown, Arity}
+use Rattle.ref_terms.specs.declared.fault.Fault.{Fault}
+use Rattle.ref_terms.specs.declared.fault.Fault.TheVariants.{Unknown, Arity}
 use Rattle.ref_terms.specs.search.Program.{Program, Clause, headed_by, modes_of}
 use Rattle.ref_terms.specs.search.Assumption.{Assumption}
 use Rattle.ref_terms.specs.search.Instance.{ClauseInstance, clause_instance, assumption_instance}
-use Rattle.ref_terms.specs.search.Branch.{Choice, by_clause, by_assumption}
+use Rattle.ref_terms.specs.declared.path.Choice.{Choice}
+use Rattle.ref_terms.specs.declared.path.Choice.TheVariants.{Clause as ByClause, Hyp as ByAssumption}
 use Rattle.ref_terms.specs.search.State.{Candidate, of_program, of_assumption}
 
 -- the choice that a clause is
 abbrev pub choice_of : Candidate → Choice
-choice_of (of_program i k) = by_clause i
-choice_of (of_assumption i h) = by_assumption i
+choice_of (of_program i k) = ByClause i
+choice_of (of_assumption i h) = ByAssumption i
 
 -- a clause at the names of the goal
 abbrev pub candidate_instance : Candidate → (names next : ℕ) → ClauseInstance

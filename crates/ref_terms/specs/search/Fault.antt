@@ -1,10 +1,20 @@
--- The faults of a search, and answers that may be a fault.
-use Rattle.std.specs.Prelude.{List, ◌++◌}
+-- Faults, and answers that may be a fault.
+use Rattle.std.specs.Prelude.{ℕ, List, ◌++◌, codes}
 use Rattle.ref_terms.specs.unification.Unify.{UnifyFault, Redex_fault, Pattern_fault, Scope_fault}
+use Rattle.ref_terms.specs.declared.fault.Fault.{Fault}
+use Rattle.ref_terms.specs.declared.fault.Fault.TheVariants.{FlexGoal, FlexClause, NotGoal, Unknown, Arity, Redex, Pattern, Scope, Number}
 
--- named as they are printed
-pub data Fault : Type 0 where
-  Flex_goal Flex_clause Not_goal Unknown Arity Redex Pattern Scope Number : Fault
+-- the name under which a fault is printed
+abbrev pub fault_name : Fault → List ℕ
+fault_name FlexGoal = codes "flex-goal"
+fault_name FlexClause = codes "flex-clause"
+fault_name NotGoal = codes "not-goal"
+fault_name Unknown = codes "unknown"
+fault_name Arity = codes "arity"
+fault_name Redex = codes "redex"
+fault_name Pattern = codes "pattern"
+fault_name Scope = codes "scope"
+fault_name Number = codes "number"
 
 -- the faults of unification among them
 abbrev pub of_unification : UnifyFault → Fault

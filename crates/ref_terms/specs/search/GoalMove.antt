@@ -9,7 +9,8 @@ use Rattle.ref_terms.specs.search.Assumption.{assumptions_of}
 use Rattle.ref_terms.specs.search.Instance.{variable_under}
 use Rattle.ref_terms.specs.search.Value.{term_eq, is_flex, is_bare_name}
 use Rattle.ref_terms.specs.search.Arithmetic.{less, value_of}
-use Rattle.ref_terms.specs.search.Branch.{Goal, Branch, left_side, right_side, with_goals, goals_at}
+use Rattle.ref_terms.specs.search.Branch.{Goal, Branch, with_goals, goals_at}
+use Rattle.ref_terms.specs.declared.path.Choice.TheVariants.{Left as LeftSide, Right as RightSide}
 use Rattle.ref_terms.specs.search.State.{Alternative, other_side, Printed, Running, Move, goes_on, faults}
 use Rattle.ref_terms.specs.search.Resolve.{Unification}
 use Rattle.ref_terms.specs.search.Candidates.{call_fault}
@@ -23,8 +24,8 @@ kind_move u p b g gs alts Truth = goes_on (with_goals gs b) alts
 kind_move u p b g gs alts Failing = fails alts
 kind_move u p b g gs alts Cut = goes_on (with_goals gs b) (cut_to g.barrier alts)
 kind_move u p b g gs alts (Conjunction s t) = goes_on (with_goals (goals_at g (s ∷ t ∷ []) ++ gs) b) alts
-kind_move u p b g gs alts (Disjunction s t) = goes_on (record b { goals = goals_at g (s ∷ []) ++ gs; path = left_side ∷ b.path })
-    (other_side (record b { goals = goals_at g (t ∷ []) ++ gs; path = right_side ∷ b.path }) ∷ alts)
+kind_move u p b g gs alts (Disjunction s t) = goes_on (record b { goals = goals_at g (s ∷ []) ++ gs; path = LeftSide ∷ b.path })
+    (other_side (record b { goals = goals_at g (t ∷ []) ++ gs; path = RightSide ∷ b.path }) ∷ alts)
 kind_move u p b g gs alts (Assuming d t) = assumes g t b gs alts (assumptions_of g.names d)
 kind_move u p b g gs alts (ForAll f) = goes_on (with_goals (record g { names = suc g.names; term = apply f (At (Name g.names)) } ∷ gs) b) alts
 kind_move u p b g gs alts (Exists f) = goes_on (record b { goals = goals_at g (applied_whole f (variable_under g.names b.next_var) ∷ []) ++ gs; next_var = suc b.next_var }) alts

@@ -5,7 +5,7 @@ use Rattle.ref_terms.specs.terms.Apply.{fill}
 use Rattle.ref_terms.specs.unification.Spine.{Shape, Flex, shape, args_of, pattern_of}
 use Rattle.ref_terms.specs.unification.Unify.{names_of}
 use Rattle.ref_terms.specs.unification.Closing.{names_below}
-use Rattle.ref_terms.specs.search.Program.{Pair}
+use Rattle.ref_terms.specs.declared.pair.Pair.{Pair}
 use Rattle.ref_terms.specs.search.Branch.{Constraint}
 
 -- for each head the joint names of its own names, in their order

@@ -1,6 +1,7 @@
 -- Checked programs and queries, without places.
 use Rattle.std.specs.Prelude.{ℕ, Bool, false, cond, nat_eq, List, [], ◌∷◌, length, replicate, Option, Some, None}
 use Rattle.ref_terms.specs.terms.Term.{Term, Head, Con}
+use Rattle.ref_terms.specs.declared.pair.Pair.{Pair}
 use Rattle.ref_terms.specs.unification.Spine.{head_of, args_of}
 
 -- a declared predicate; for each argument whether it is an input
@@ -18,13 +19,6 @@ pub record Clause : Type 0 where
 pub record RuleHead : Type 0 where
   pub context : Option ℕ
   pub goal : Term
-
--- arguments of two heads whose spines are aligned, counted from 0
-pub record Pair : Type 0 where
-  pub left_head : ℕ
-  pub left_arg : ℕ
-  pub right_head : ℕ
-  pub right_arg : ℕ
 
 -- names are those of its block; there is a head at least
 pub record Rule : Type 0 where

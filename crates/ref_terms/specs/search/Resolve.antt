@@ -2,9 +2,9 @@
 use Rattle.std.specs.Prelude.{ℕ, Bool, true, false, cond, nat_eq, List, [], ◌∷◌, ◌++◌, map, length, replicate, Option, Some, None, unwrap_or}
 use Rattle.ref_terms.specs.terms.Term.{Term}
 use Rattle.ref_terms.specs.unification.Spine.{args_of}
-use Rattle.ref_terms.specs.unification.Unify.{Equation, Binding, Problem, Answer, Solved, Clashed}
-use Rattle.ref_terms.specs.unification.Unify as un
-use Rattle.ref_terms.specs.search.Fault.{Fault, of_unification, Judged, Good, Bad}
+use Rattle.ref_terms.specs.unification.Unify.{Equation, Binding, Problem, Answer, Solved, Clashed, Faulted as UnifyFaulted}
+use Rattle.ref_terms.specs.search.Fault.{of_unification, Judged, Good, Bad}
+use Rattle.ref_terms.specs.declared.fault.Fault.{Fault}
 use Rattle.ref_terms.specs.search.Instance.{ClauseInstance}
 use Rattle.ref_terms.specs.search.Branch.{Goal, Branch, bound_equation, bound_branch}
 use Rattle.ref_terms.specs.search.State.{Candidate}
@@ -34,13 +34,13 @@ entered b g gs barrier c body = record b { goals = map (λ t. record g { barrier
 abbrev pub unified : Branch → List Binding → Answer → Tried
 unified b older (Solved q) = Fits (bound_branch (q.bindings ++ older) q.next_var b)
 unified b older (Clashed knot) = Clashes
-unified b older (un.Faulted f) = Breaks (of_unification f)
+unified b older (UnifyFaulted f) = Breaks (of_unification f)
 
 -- after the inputs, in which all variables older than the instance are frozen
 abbrev pub matched : Unification → Branch → List Equation → Answer → Tried
 matched u b outputs (Solved q) = unified b q.bindings (u 0 (record { next_var = q.next_var; equations = map (bound_equation q.bindings) outputs; bindings = [] }))
 matched u b outputs (Clashed knot) = Clashes
-matched u b outputs (un.Faulted f) = Breaks (of_unification f)
+matched u b outputs (UnifyFaulted f) = Breaks (of_unification f)
 
 -- the modes of a predicate without a declaration are outputs
 abbrev pub try_instance : Unification → Option (List Bool) → Branch → Goal → List Goal → (barrier : ℕ) → Candidate → ClauseInstance → Tried

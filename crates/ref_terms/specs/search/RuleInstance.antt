@@ -2,8 +2,7 @@
 use Rattle.std.specs.Prelude.{ℕ, ◌+◌, Bool, true, false, cond, ◌&&◌, not, nat_eq, List, [], ◌∷◌, ◌++◌, map, filter, Option, Some, None, unwrap_or}
 use Rattle.std.specs.List.{list_any, list_all}
 use Rattle.ref_terms.specs.terms.Term.{Term}
-use Rattle.ref_terms.specs.unification.Unify.{Equation, Binding, Problem, Answer, Solved, Clashed, equations_of}
-use Rattle.ref_terms.specs.unification.Unify as un
+use Rattle.ref_terms.specs.unification.Unify.{Binding, Answer, Solved, Clashed, Faulted as UnifyFaulted}
 use Rattle.ref_terms.specs.search.Reserved.{true_term}
 use Rattle.ref_terms.specs.search.Fault.{of_unification, Judged, Good, Bad, judged_map}
 use Rattle.ref_terms.specs.search.Program.{Rule}
@@ -70,7 +69,7 @@ tested r names next f cs value = cond (list_all (λ t. holds (value t)) r.tests)
 abbrev pub after_matching : Rule → (names next : ℕ) → Fired → List Constraint → Answer → Option (Judged Firing)
 after_matching r names next f cs (Solved q) = tested r names q.next_var f cs (matched_value names next q.bindings)
 after_matching r names next f cs (Clashed knot) = None
-after_matching r names next f cs (un.Faulted e) = Some (Bad (of_unification e))
+after_matching r names next f cs (UnifyFaulted e) = Some (Bad (of_unification e))
 
 -- matching at the joint names
 abbrev pub matched_at : Unification → (next : ℕ) → Rule → Fired → List Constraint → Option Joint → Option (Judged Firing)

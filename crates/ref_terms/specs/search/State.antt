@@ -1,6 +1,6 @@
 -- States of a search, its events and moves.
 use Rattle.std.specs.Prelude.{ℕ, List, Option}
-use Rattle.ref_terms.specs.search.Fault.{Fault}
+use Rattle.ref_terms.specs.declared.fault.Fault.{Fault}
 use Rattle.ref_terms.specs.search.Program.{Clause}
 use Rattle.ref_terms.specs.search.Assumption.{Assumption}
 use Rattle.ref_terms.specs.search.Branch.{Branch}

@@ -3,7 +3,9 @@ use Rattle.std.specs.Prelude.{ℕ, cond, List, [], ◌∷◌, ◌++◌, map, rev
 use Rattle.ref_terms.specs.terms.Term.{Term, Name}
 use Rattle.ref_terms.specs.unification.Closing.{names_below}
 use Rattle.ref_terms.specs.search.Program.{QueryVar}
-use Rattle.ref_terms.specs.search.Branch.{Constraint, Branch, Choice, by_clause, by_assumption, left_side, right_side}
+use Rattle.ref_terms.specs.search.Branch.{Constraint, Branch}
+use Rattle.ref_terms.specs.declared.path.Choice.{Choice}
+use Rattle.ref_terms.specs.declared.path.Choice.TheVariants.{Clause as ByClause, Hyp as ByAssumption, Left as LeftSide, Right as RightSide}
 use Rattle.ref_terms.specs.texts.Text.{Part, Bytes, symbol, head_text, top, term_parts}
 use Rattle.ref_terms.specs.texts.Numbering.{text_of}
 
@@ -39,10 +41,10 @@ answer_block table vs number b = text_of (Bytes (codes "answer " ++ decimal numb
 
 -- a choice, with its place
 abbrev pub choice_text : Choice → List ℕ
-choice_text (by_clause i) = codes " c" ++ decimal i
-choice_text (by_assumption i) = codes " h" ++ decimal i
-choice_text left_side = codes " l"
-choice_text right_side = codes " r"
+choice_text (ByClause i) = codes " c" ++ decimal i
+choice_text (ByAssumption i) = codes " h" ++ decimal i
+choice_text LeftSide = codes " l"
+choice_text RightSide = codes " r"
 
 -- the choices that led to an answer, oldest first, on a line
 abbrev pub path_line : List Choice → List ℕ
