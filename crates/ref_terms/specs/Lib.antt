@@ -1,4 +1,7 @@
-pub mod terms
-pub mod unification
+pub mod ending
+pub mod laws
+pub mod lemmas
 pub mod search
+pub mod terms
 pub mod texts
+pub mod unification
