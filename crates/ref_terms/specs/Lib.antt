@@ -1,5 +1,8 @@
+pub mod ending
 pub mod formers
-pub mod terms
-pub mod unification
+pub mod laws
+pub mod lemmas
 pub mod search
+pub mod terms
 pub mod texts
+pub mod unification

@@ -4,5 +4,6 @@ pub mod Offence
 pub mod RealClash
 pub mod Renamed
 pub mod Spine
+pub mod Unification
 pub mod Unifier
 pub mod Unify

@@ -4,6 +4,7 @@
 #![tactic(auto)]
 
 pub mod fault;
+pub mod laws;
 pub mod pair;
 pub mod path;
 pub mod sequence;

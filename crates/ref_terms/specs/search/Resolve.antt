@@ -3,16 +3,13 @@ use Rattle.std.specs.Prelude.{ℕ, Bool, true, false, cond, nat_eq, List, [], �
 use Rattle.ref_terms.specs.terms.Term.{Term}
 use Rattle.ref_terms.specs.unification.Spine.{args_of}
 use Rattle.ref_terms.specs.unification.Unify.{Equation, Binding, Problem, Answer, Solved, Clashed, Faulted as UnifyFaulted}
+pub use Rattle.ref_terms.specs.unification.Unification.{Unification}
 use Rattle.ref_terms.specs.search.Fault.{of_unification, Judged, Good, Bad}
 use Rattle.ref_terms.specs.declared.fault.Fault.{Fault}
 use Rattle.ref_terms.specs.search.Instance.{ClauseInstance}
 use Rattle.ref_terms.specs.search.Branch.{Goal, Branch, bound_equation, bound_branch}
 use Rattle.ref_terms.specs.search.State.{Candidate}
 use Rattle.ref_terms.specs.search.Candidates.{choice_of, candidate_instance}
-
--- unification from a mark and a problem to an answer
-abbrev pub Unification : Type 0
-Unification = ℕ → Problem → Answer
 
 -- what a clause comes to
 pub data Tried : Type 0 where

@@ -1,0 +1,9 @@
+pub mod ApplyLemmas
+pub mod ComposeLemmas
+pub mod EtaLemmas
+pub mod FillLemmas
+pub mod NameLemmas
+pub mod OccursLemmas
+pub mod ReadyFacts
+pub mod TermLemmas
+pub mod VarsLemmas
