@@ -1,0 +1,4 @@
+pub mod Scan
+pub mod Words
+pub mod Pieces
+pub mod Lexing
