@@ -1,0 +1,6 @@
+use Rattle.std.proofs.Common.{◌≡◌, drop}
+use Rattle.elpi_cli.specs.HornSearch.{first_fit}
+use Rattle.elpi_cli.proofs.horn.Horn.find_fit.Given as goal
+
+abbrev pub invariant-loop-at : goal.invariant-loop-at
+invariant-loop-at l = first_fit l.self l.arguments (drop l.at l.places) ≡ first_fit l.self l.arguments (drop l.tried l.places)

@@ -1,0 +1,2 @@
+pub mod HornSearch
+pub mod Reading
