@@ -1,1 +1,4 @@
 pub mod Resolving
+pub mod Constants
+pub mod Calls
+pub mod Places

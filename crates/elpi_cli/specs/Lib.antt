@@ -1,2 +1,3 @@
 pub mod HornSearch
 pub mod Reading
+pub mod HornProgram

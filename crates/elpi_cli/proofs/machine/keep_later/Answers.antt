@@ -1,4 +1,4 @@
-use Rattle.std.proofs.Common.{◌-◌, ◌<◌, length, drop, arith, length-drop, refl}
+use Rattle.std.proofs.Common.{◌<◌, length, drop, arith, length-drop, refl}
 use Rattle.elpi_cli.specs.Reading.{places_at}
 use Rattle.elpi_cli.proofs.Resolving.{with_choice-some}
 use Rattle.elpi_cli.proofs.machine.keep_later.Goals as goal

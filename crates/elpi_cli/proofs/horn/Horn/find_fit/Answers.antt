@@ -1,5 +1,4 @@
-use Rattle.std.proofs.Common.{◌<◌, length, arith, refl, sym, ◌∙◌, get_or}
-use Rattle.std.proofs.lemmas.Option.{slice_get_read}
+use Rattle.std.proofs.Common.{◌<◌, length, arith, sym, ◌∙◌, get_or}
 use Rattle.elpi_cli.proofs.Resolving.{first_fit-here, slice_get-at}
 use Rattle.elpi_cli.proofs.horn.Horn.find_fit.Goals as goal
 
