@@ -6,3 +6,4 @@ pub mod Spans
 pub mod HornMoves
 pub mod HornCalls
 pub mod HornNext
+pub mod HornEvents

@@ -1,3 +1,5 @@
 pub mod HornSearch
 pub mod Reading
 pub mod HornProgram
+pub mod Output
+pub mod HornOutput

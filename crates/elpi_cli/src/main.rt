@@ -4,10 +4,12 @@
 mod horn;
 mod machine;
 mod stack;
+mod status;
 
 pub use horn::{Atom, Horn, HornClause, Span};
 pub use machine::{Alternative, Machine, Phase, Event};
 pub use stack::Stack;
+pub use status::Status;
 
 fn main(rt: HostRuntime) {
     let _ = rt;
