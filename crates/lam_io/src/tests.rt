@@ -71,8 +71,8 @@ fn reads_in_memory_fail_where_listed(rt: HostRuntime) -> Result<(), Fail> {
     assert_eq!(rt; failing.as_slice(), [2, 4, 5].as_slice());
     let mut clean = CleanFiles::new(rt.alloc(), three_files(rt.alloc())?);
     let mut listed = MemFiles::new(rt.alloc(), files, failing);
-    // The name and the limit, what the reads answer that never fail, and what those answer that fail
-    // at their calls 2, 4 and 5.
+    // The name and the limit, what the reads answer that never fail, and what those answer whose
+    // calls 2, 4 and 5 fail.
     for (name, limit, never, at_calls) in [
         ("a", 3, "one", "one"),
         ("a", 3, "one", "failed"),
