@@ -17,9 +17,11 @@ pub record MemorySink : Type 0 where
 -- how many bytes the first entry for that call keeps
 abbrev pub kept_at : List FailEntry → ℕ → Option ℕ
 kept_at [] call = None
-kept_at (entry ∷ entries) call = if nat_eq entry.call call then Some entry.kept else kept_at entries call
+kept_at (entry ∷ entries) call =
+    if nat_eq entry.call call then Some entry.kept else kept_at entries call
 
--- how many bytes the next call keeps where it fails: none of a piece that passes the room, else as listed
+-- how many bytes the next call keeps where it fails: none of a piece that passes the room, else
+-- as listed
 abbrev pub kept_of : MemorySink → List ℕ → Option ℕ
 kept_of sink piece =
     if nat_lt sink.room (length sink.written + length piece) then Some 0

@@ -1,10 +1,11 @@
 // Files that are read whole, by name.
-ghost use Rattle.std.specs.Prelude.{◌≡◌, ◌≢◌, ◌<◌, ◌≤◌, ◌↔◌, List, ℕ, length, Contains, Some, IfOk, IfSome, IsErrOf, IsSome, IsTrue};
+ghost use Rattle.std.specs.Prelude.{◌≡◌, ◌≢◌, ◌<◌, ◌≤◌, ◌↔◌, List, ℕ, length, Some, IfOk, IfSome, IsErrOf, IsSome, IsTrue};
 ghost use Rattle.std.specs.Option.{option_copied};
 ghost use Rattle.std.specs.declared.option.Option.{Option};
 ghost use Rattle.lam_io.specs.declared.byte_text.FileEntry.{FileEntry};
 ghost use Rattle.lam_io.specs.declared.files.FileFail.TheVariants.{Memory};
 ghost use Rattle.lam_io.specs.Faults.{HasCause, counted};
+ghost use Rattle.lam_io.specs.MemoryFiles.{IsListed};
 ghost use Rattle.lam_io.specs.Reads.{IsReading, bytes_of};
 
 use crate::byte_text::{ByteText, FileEntry, FileList, Numbers};
@@ -51,14 +52,16 @@ pub trait Files {
     /// Reads the whole file of that name, of at most `limit` bytes.
     ///
     /// Errors: `Missing` where no file has that name; `Failed` where a read failed, and then the
-    /// count of faults rose; `TooLong` where the file has more than `limit` bytes; `Memory` for want
-    /// of memory. `Missing` stands before `Failed`, and `Failed` before `TooLong`. No call changes
-    /// what is told.
+    /// count of faults rose; `TooLong` where the file has more than `limit` bytes; `Memory` for
+    /// want of memory. `Missing` stands before `Failed`, and `Failed` before `TooLong`. No call
+    /// changes what is told.
     fn read_file(&mut self, name: &str, limit: usize) -> Result<ByteText, FileFail>
         ensures told { told self.new ≡ told self.old }
         ensures limit { IfOk result (λ bytes. length bytes ≤ limit) }
-        ensures reading { IfSome (told self.old) (λ files. IsReading files name.now limit result) }
-        ensures cause { HasCause (faults self.old) (faults self.new) (IsErrOf result FileFail.Failed) };
+        ensures reading { IfSome (told self.old) (λ files.
+            IsReading files name.now limit result) }
+        ensures cause { HasCause (faults self.old) (faults self.new)
+            (IsErrOf result FileFail.Failed) };
 }
 
 /// Files in memory, of which no read fails. A contract sees the list of the files.
@@ -98,7 +101,7 @@ impl Files for CleanFiles {
         ensures told { self.new ≡ self.old }
         ensures limit { IfOk result (λ bytes. length bytes ≤ limit) }
         ensures reading { IsReading self.old name.now limit result }
-        ensures cause { result ≢ Err FileFail.Failed }
+        ensures never_fails { result ≢ Err FileFail.Failed }
     {
         read_from(self.alloc, self.files.as_slice(), name, limit, false)
     }
@@ -130,8 +133,8 @@ impl Model for MemFiles {
 
 impl MemFiles {
     /// Makes the files of this list, of which the first of a name counts. The calls of `read_file`
-    /// with the numbers in `failing`, counted from 1, fail. Takes no memory; `alloc` is for the bytes
-    /// that a read answers.
+    /// with the numbers in `failing`, counted from 1, fail. Takes no memory; `alloc` is for the
+    /// bytes that a read answers.
     pub fn new(alloc: Global, files: FileList, failing: Numbers) -> Self
         ensures files { result.files ≡ files }
         ensures failing { result.failing ≡ failing }
@@ -163,9 +166,11 @@ impl Files for MemFiles {
         ensures limit { IfOk result (λ bytes. length bytes ≤ limit) }
         ensures reading { IsReading self.old.files name.now limit result }
         ensures cause { HasCause self.old.faults self.new.faults (IsErrOf result FileFail.Failed) }
-        ensures listed { IsErrOf result FileFail.Failed → Contains self.old.failing (counted self.old.calls) }
-        ensures fails { Contains self.old.failing (counted self.old.calls) → IsSome (bytes_of self.old.files name.now) → result ≡ Err FileFail.Failed }
-        ensures counted { IsErrOf result FileFail.Failed → self.new.faults ≡ counted self.old.faults }
+        ensures listed { IsErrOf result FileFail.Failed → IsListed self.old }
+        ensures fails { IsListed self.old → IsSome (bytes_of self.old.files name.now)
+            → result ≡ Err FileFail.Failed }
+        ensures counted { IsErrOf result FileFail.Failed
+            → self.new.faults ≡ counted self.old.faults }
         ensures still { result ≢ Err FileFail.Failed → self.new.faults ≡ self.old.faults }
         ensures calls { self.new.calls ≡ counted self.old.calls }
         ensures failing { self.new.failing ≡ self.old.failing }
@@ -191,7 +196,8 @@ fn read_from(
     ensures limit { IfOk result (λ bytes. length bytes ≤ limit) }
     ensures reading { IsReading files.now name.now limit result }
     ensures failed { IsErrOf result FileFail.Failed → IsTrue fails }
-    ensures fails { IsTrue fails → IsSome (bytes_of files.now name.now) → result ≡ Err FileFail.Failed }
+    ensures fails { IsTrue fails → IsSome (bytes_of files.now name.now)
+        → result ≡ Err FileFail.Failed }
 {
     match find(files, name) {
         None => Err(FileFail::Missing),

@@ -15,9 +15,9 @@ const BUFFER: usize = 65536;
 
 /// The files that the host has. A contract sees how often a read failed.
 ///
-/// This is the trusted edge: it tells nothing of what a file holds, and that the host reads what the
-/// file has is not proved. Every error but a file that the host says isn't there raises the count by
-/// one, up to the last value of a u64. A read that gives nothing is the end of the file.
+/// This is the trusted edge: it tells nothing of what a file holds, and that the host reads what
+/// the file has is not proved. Every error but a file that the host says isn't there raises the
+/// count by one, up to the last value of a u64. A read that gives nothing is the end of the file.
 #[derive(Drop)]
 pub struct HostFiles<'r, R> {
     rt: &'r R,
@@ -48,9 +48,9 @@ impl<'r, R: rt::Files + AllocGlobal> Files for HostFiles<'r, R> {
 
     /// Reads the whole file of that name, of at most `limit` bytes.
     ///
-    /// Errors: `Missing` where the host says that it isn't there; `Failed` at every other error of the
-    /// host, in which alone the count of faults rises; `TooLong` where more than `limit` bytes came;
-    /// `Memory` for want of memory.
+    /// Errors: `Missing` where the host says that it isn't there; `Failed` at every other error of
+    /// the host, in which alone the count of faults rises; `TooLong` where more than `limit` bytes
+    /// came; `Memory` for want of memory.
     fn read_file(&mut self, name: &str, limit: usize) -> Result<ByteText, FileFail>
         ensures limit { IfOk result (λ bytes. length bytes ≤ limit) }
         ensures cause { HasCause self.old self.new (IsErrOf result FileFail.Failed) }
@@ -103,9 +103,9 @@ fn read_whole<F: Read>(alloc: Global, file: &mut F, limit: usize) -> Result<Byte
 
 /// The standard output. A contract sees how often a write failed.
 ///
-/// This is the trusted edge: it tells nothing of what was written, and that the host passes it on is
-/// not proved. Every error raises the count by one, up to the last value of a u64. A write that takes
-/// nothing of a piece that isn't empty is an error.
+/// This is the trusted edge: it tells nothing of what was written, and that the host passes it on
+/// is not proved. Every error raises the count by one, up to the last value of a u64. A write that
+/// takes nothing of a piece that isn't empty is an error.
 #[derive(Drop)]
 pub struct HostSink<'r, R> {
     rt: &'r R,

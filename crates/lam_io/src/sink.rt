@@ -1,5 +1,5 @@
 // A sink for pieces of output.
-ghost use Rattle.std.specs.Prelude.{◌≡◌, ◌≤◌, ◌+◌, ◌++◌, List, ℕ, [], length, take, Some, None, OnOk, IfOk, IsErr, IfSome, IfNone, vec_len};
+ghost use Rattle.std.specs.Prelude.{◌≡◌, ◌≤◌, ◌+◌, ◌++◌, List, ℕ, [], length, take, Some, None, OnOk, OnErr, IfOk, IsErr, IfSome, IfNone, vec_len};
 ghost use Rattle.std.specs.Vec.{vec_capacity};
 ghost use Rattle.std.specs.declared.option.Option.{Option};
 ghost use Rattle.lam_io.specs.Faults.{HasCause, counted};
@@ -37,7 +37,8 @@ pub trait Sink {
     fn write(&mut self, piece: &[u8]) -> Result<(), SinkFailed>
         ensures bytes { Writes (told self.old) (told self.new) piece.now result }
         ensures cause { HasCause (faults self.old) (faults self.new) (IsErr result) }
-        ensures stopped { Stops (told self.old) (told self.new) (stopped self.old) (stopped self.new) result };
+        ensures stopped { Stops (told self.old) (told self.new)
+            (stopped self.old) (stopped self.new) result };
 }
 
 /// A sink that keeps nothing, tells nothing and never fails.
@@ -96,14 +97,15 @@ impl Model for MemSink {
       stopped = option_map (λ at. take at it.written.items) it.stop;
     } };
 
-    ghost invariant = { λ it. (length it.written.items ≤ it.room) × (it.room ≤ vec_capacity it.written)
+    ghost invariant = { λ it. (length it.written.items ≤ it.room)
+        × (it.room ≤ vec_capacity it.written)
         × ForSome it.stop (λ at. at ≤ length it.written.items) };
 }
 
 impl MemSink {
-    /// Makes an empty sink with room for `room` bytes. Each item of `failing` is the number of a call
-    /// of `write`, counted from 1, and how many bytes of its piece are kept; the first item for a
-    /// call counts.
+    /// Makes an empty sink with room for `room` bytes. Each item of `failing` is the number of a
+    /// call of `write`, counted from 1, and how many bytes of its piece are kept; the first item
+    /// for a call counts.
     ///
     /// Errors: want of memory for the room.
     pub fn new(alloc: Global, room: usize, failing: FailList) -> Result<Self, AllocError>
@@ -171,11 +173,13 @@ impl Sink for MemSink {
     fn write(&mut self, piece: &[u8]) -> Result<(), SinkFailed>
         ensures bytes { Writes (Some self.old.written) (Some self.new.written) piece.now result }
         ensures cause { HasCause self.old.faults self.new.faults (IsErr result) }
-        ensures stopped { Stops (Some self.old.written) (Some self.new.written) self.old.stopped self.new.stopped result }
+        ensures stopped { Stops (Some self.old.written) (Some self.new.written)
+            self.old.stopped self.new.stopped result }
         ensures takes { IfNone (kept_of self.old piece.now) (result ≡ Ok tt) }
         ensures fails { IfSome (kept_of self.old piece.now) (λ _. IsErr result) }
-        ensures kept { IfSome (kept_of self.old piece.now) (λ kept. self.new.written ≡ self.old.written ++ take kept piece.now) }
-        ensures counted { IfSome (kept_of self.old piece.now) (λ _. self.new.faults ≡ counted self.old.faults) }
+        ensures kept { IfSome (kept_of self.old piece.now) (λ kept.
+            self.new.written ≡ self.old.written ++ take kept piece.now) }
+        ensures counted { OnErr result (self.new.faults ≡ counted self.old.faults) }
         ensures still { OnOk result (self.new.faults ≡ self.old.faults) }
         ensures calls { self.new.calls ≡ counted self.old.calls }
         ensures room { self.new.room ≡ self.old.room }
