@@ -1,5 +1,5 @@
 -- The tokens of a text.
-use Rattle.std.specs.Prelude.{◌≡◌, ℕ, zero, suc, ◌+◌, ◌-◌, ◌<◌, ◌≤◌, List, [], ◌∷◌, Option, Some, None, option_map, length, drop, slice_range}
+use Rattle.std.specs.Prelude.{◌≡◌, ℕ, zero, suc, ◌+◌, ◌-◌, ◌<◌, ◌≤◌, List, [], ◌∷◌, Option, Some, None, option_map, length, drop, slice_get, slice_range}
 use Rattle.lp_lexer.specs.declared.token.Token.{Token}
 use Rattle.lp_lexer.specs.declared.token.TokenKind.{TokenKind}
 use Rattle.lp_lexer.specs.declared.piece.Piece.{Piece}
@@ -27,17 +27,18 @@ abbrev pub before : Token → Option (List Token) → Option (List Token)
 before t None = None
 before t (Some ts) = Some (t ∷ ts)
 
+-- The tokens from the byte at on, where that piece stands. The rest has those behind its next n characters.
+abbrev pub by_piece : Piece → ℕ → (ℕ → Option (List Token)) → Option (List Token)
+by_piece Over at rest = Some []
+by_piece (Blank n) at rest = rest (n - 1)
+by_piece (Lexeme k n) at rest = before (record { kind = k; at = at; end = at + n }) (rest (n - 1))
+by_piece NotYet at rest = None
+
 -- The tokens of the text u from the byte at on, whose first n characters belong to the piece before.
 abbrev pub tokens_from : ℕ → ℕ → List ℕ → Option (List Token)
 tokens_from n at [] = Some []
 tokens_from (suc n) at (c ∷ u) = tokens_from n (at + 1) u
-tokens_from zero at (c ∷ u) =
-    elim (piece (c ∷ u)) [
-      | Over ↦ Some []
-      | Blank n ↦ tokens_from (n - 1) (at + 1) u
-      | Lexeme k n ↦ before (record { kind = k; at = at; end = at + n }) (tokens_from (n - 1) (at + 1) u)
-      | NotYet ↦ None
-    ]
+tokens_from zero at (c ∷ u) = by_piece (piece (c ∷ u)) at (λ n. tokens_from n (at + 1) u)
 
 -- The tokens of a text, where all of it can be read.
 unfoldable pub tokens_of : List ℕ → Option (List Token)
@@ -47,3 +48,7 @@ tokens_of u = tokens_from 0 0 u
 abbrev pub InOrder : ℕ → ℕ → List Token → Type 0
 InOrder from len [] = from ≤ len
 InOrder from len (t ∷ ts) = (from ≤ t.at) × (t.at < t.end) × InOrder t.end len ts
+
+-- Each token has a character, and ends within so many.
+abbrev pub AreWithin : ℕ → List Token → Type 0
+AreWithin len ts = (i : ℕ) (t : Token) → slice_get ts i ≡ Some t → (t.at < t.end) × (t.end ≤ len)

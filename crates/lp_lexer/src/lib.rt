@@ -2,9 +2,20 @@
 #![tactic(auto)]
 
 mod error;
+mod front;
+mod laws;
+mod lex;
 mod piece;
+mod scan;
+#[cfg(test)]
+mod tests;
 mod token;
+mod token_list;
+mod words;
 
 pub use error::LexError;
+pub use laws::{one_list_of_tokens, tokens_in_order};
+pub use lex::tokens;
 pub use piece::Piece;
 pub use token::{Symbol, Token, TokenKind};
+pub use token_list::Tokens;

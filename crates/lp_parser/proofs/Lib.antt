@@ -1,0 +1,5 @@
+pub mod Levels
+pub mod TermComplete
+pub mod TermSound
+pub mod Items
+pub mod Readings
