@@ -14,6 +14,7 @@ pub mod ContextAsList
 pub mod ContractedClause
 pub mod CutInAssumption
 pub mod CutInBody
+pub mod Derivation
 pub mod ElaboratedAbstraction
 pub mod EndlessLoop
 pub mod EnoughSteps
