@@ -21,6 +21,7 @@ pub mod EnoughSteps
 pub mod EtaContraction
 pub mod FirstHeadsAssumptions
 pub mod InputStaysUnbound
+pub mod JointNames
 pub mod KeptFiresOnce
 pub mod KeysNoList
 pub mod LessOfConstant
@@ -35,9 +36,11 @@ pub mod OneStepShort
 pub mod Output
 pub mod OutputIsBound
 pub mod OutsidePatterns
+pub mod Paths
 pub mod PrintUnderName
 pub mod PrunedArgument
 pub mod RaisedVariables
+pub mod Readings
 pub mod SameOfVariables
 pub mod SecondInputSelects
 pub mod StuckAbstraction

@@ -1,12 +1,12 @@
 -- What an example's run writes.
-use Rattle.std.specs.Prelude.{ℕ, zero, suc, Bool, false, cond, ◌&&◌, not, nat_eq, nat_le, List, [], ◌∷◌, ◌++◌, codes, unwrap_or}
+use Rattle.std.specs.Prelude.{ℕ, zero, suc, Bool, false, cond, ◌&&◌, not, nat_eq, nat_le, List, [], ◌∷◌, ◌++◌, flat_map, codes, unwrap_or}
 use Rattle.ref_terms.specs.unification.Unify.{Clashed, run}
 use Rattle.ref_terms.specs.search.Fault.{fault_name}
 use Rattle.ref_terms.specs.search.Program.{Program, QueryVar, Query}
 use Rattle.ref_terms.specs.search.State.{Event, Moved, Printed, Answered, Failure, Faulted}
 use Rattle.ref_terms.specs.search.Resolve.{Unification}
 use Rattle.ref_terms.specs.search.Events.{events, first_state}
-use Rattle.ref_terms.specs.texts.Answer.{answer_block}
+use Rattle.ref_terms.specs.texts.Answer.{answer_block, path_line}
 
 -- unification by at most 200 steps, which all examples stay below
 abbrev counted : Unification
@@ -37,3 +37,12 @@ written table vs limit count (Faulted f ∷ es) = line (codes "fault: " ++ fault
 -- the bytes of the run of a query, with at most so many moves and answers
 abbrev pub output : Program → Query → (steps limit : ℕ) → List ℕ
 output p q steps limit = written p.symbols q.variables limit 0 (events counted p steps (first_state q))
+
+-- the path line of an answer
+abbrev event_path : Event → List ℕ
+event_path (Answered b) = path_line b.path
+event_path _ = []
+
+-- the path lines of a query's answers, within so many moves
+abbrev pub paths : Program → Query → (steps : ℕ) → List ℕ
+paths p q steps = flat_map event_path (events counted p steps (first_state q))
