@@ -3,6 +3,7 @@ pub mod Assumption
 pub mod Branch
 pub mod BranchMove
 pub mod Candidates
+pub mod Derivable
 pub mod Events
 pub mod Fault
 pub mod FirstRule

@@ -30,7 +30,7 @@ judged_integer None t = Bad (number_fault t)
 abbrev pub operand : Term → Judged ℤ
 operand t = judged_integer (integer_of t) t
 
--- the left fault decides
+-- a comparison of two operands, where the left fault decides
 abbrev pub judged_less : Judged ℤ → Judged ℤ → Judged Bool
 judged_less (Good a) (Good b) = Good (int_lt a b)
 judged_less (Good a) (Bad e) = Bad e
@@ -48,7 +48,7 @@ fits z = not (int_lt z (negsuc (2 ^ 63 - 1))) && int_lt z (pos (2 ^ 63))
 abbrev pub in_range : ℤ → Judged ℤ
 in_range z = cond (fits z) (Good z) (Bad Number)
 
--- by the operator
+-- the result of an operator
 abbrev pub calculated : Option Reserved → ℤ → ℤ → Judged ℤ
 calculated (Some Plus_word) a b = in_range (a +ℤ b)
 calculated (Some Minus_word) a b = in_range (a -ℤ b)

@@ -8,7 +8,7 @@ use Rattle.ref_terms.specs.search.Reserved.{Reserved, And_word, Implies_word, If
 use Rattle.ref_terms.specs.search.Fault.{Judged, Good, Bad, judged_map, judged_append}
 use Rattle.ref_terms.specs.declared.fault.Fault.TheVariants.{FlexClause, NotGoal, Redex}
 
--- its parameters are the names from `scope` on; outer conditions stand first
+-- a hypothetical clause: its parameters are the names from `scope` on, its outer conditions stand first
 pub record Assumption : Type 0 where
   pub pred : ℕ
   pub scope : ℕ
@@ -57,7 +57,7 @@ constants (At (Con c)) = 1
 constants (At _) = 0
 constants (App f a) = constants f + constants a
 
--- with so many forms to read at most, and so many parameters so far
+-- the clauses of a term, with so many forms to read at most, and so many parameters so far
 abbrev pub read_at : ℕ → (scope bound : ℕ) → Term → Judged (List Assumption)
 read_at zero scope bound t = clause_at (λ k d. Bad NotGoal) scope bound t (shape 0 t)
 read_at (suc n) scope bound t = clause_at (read_at n scope) scope bound t (shape 0 t)

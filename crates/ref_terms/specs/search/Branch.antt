@@ -6,7 +6,7 @@ use Rattle.ref_terms.specs.unification.Unify.{Binding, Equation}
 use Rattle.ref_terms.specs.declared.path.Choice.{Choice}
 use Rattle.ref_terms.specs.search.Assumption.{Assumption}
 
--- the names in scope are the numbers below `names`; the barrier is a number of alternatives
+-- a goal: its names are the numbers below `names`, its barrier is a number of alternatives
 pub record Goal : Type 0 where
   pub names : ℕ
   pub assumptions : List Assumption
@@ -26,7 +26,7 @@ pub record Fired : Type 0 where
   pub rule : ℕ
   pub constraints : List ℕ
 
--- constraints in order of declaration, numbered by it; choices newest first
+-- a branch of the search: constraints in order of declaration, numbered by it; choices newest first
 pub record Branch : Type 0 where
   pub goals : List Goal
   pub store : List Constraint
@@ -36,24 +36,24 @@ pub record Branch : Type 0 where
   pub declared : ℕ
   pub path : List Choice
 
--- bindings stand newest first, and the oldest is applied first
+-- bindings applied to a term; they stand newest first, and the oldest is applied first
 abbrev pub bound : List Binding → Term → Term
 bound [] t = t
 bound (b ∷ older) t = inst b.variable b.value (bound older t)
 
--- the same on equations
+-- bindings applied to an equation
 abbrev pub bound_equation : List Binding → Equation → Equation
 bound_equation bs e = record e { left = bound bs e.left; right = bound bs e.right }
 
--- names are no part of bindings, so `scope` and `parameters` stay
+-- bindings applied to an assumption; its scope and its parameters stay
 abbrev pub bound_assumption : List Binding → Assumption → Assumption
 bound_assumption bs h = record h { head = bound bs h.head; conditions = map (bound bs) h.conditions; assumed = bound bs h.assumed }
 
--- the barrier stays
+-- bindings applied to a goal
 abbrev pub bound_goal : List Binding → Goal → Goal
 bound_goal bs g = record g { assumptions = map (bound_assumption bs) g.assumptions; term = bound bs g.term }
 
--- its keys too
+-- bindings applied to a constraint and its keys
 abbrev pub bound_constraint : List Binding → Constraint → Constraint
 bound_constraint bs c = record c { assumptions = map (bound_assumption bs) c.assumptions; term = bound bs c.term; keys = map (bound bs) c.keys }
 

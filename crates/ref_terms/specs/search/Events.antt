@@ -33,5 +33,5 @@ following later e s = e ∷ later s
 
 -- the events of at most so many moves
 abbrev pub events : Unification → Program → ℕ → State → List Event
-events u p zero s = []
-events u p (suc n) s = let m = next u p s in following (events u p n) m.event m.state
+events unify program zero s = []
+events unify program (suc n) s = let m = next unify program s in following (events unify program n) m.event m.state

@@ -17,17 +17,17 @@ abbrev pub tuples : {H : Type 0} → List H → List Constraint → List (List C
 tuples [] store = [] ∷ []
 tuples (h ∷ hs) store = flat_map (λ p. map (λ cs. p.0 ∷ cs) (tuples hs p.1)) (picks [] store)
 
--- the first that there is
+-- the first of two that there is
 abbrev pub or_later : Option (Judged Firing) → Option (Judged Firing) → Option (Judged Firing)
 or_later (Some f) later = Some f
 or_later None later = later
 
--- of the tuples of one rule
+-- the first instance or fault among these tuples of one rule
 abbrev pub first_tuple : Unification → Branch → (place : ℕ) → Rule → List (List Constraint) → Option (Judged Firing)
-first_tuple u b place r [] = None
-first_tuple u b place r (cs ∷ css) = or_later (rule_instance u b place r cs) (first_tuple u b place r css)
+first_tuple unify branch place r [] = None
+first_tuple unify branch place r (cs ∷ css) = or_later (rule_instance unify branch place r cs) (first_tuple unify branch place r css)
 
--- of the rules from this place on, the first instance or fault
+-- the first instance or fault of the rules from this place on
 abbrev pub first_firing : Unification → Branch → (place : ℕ) → List Rule → Option (Judged Firing)
-first_firing u b place [] = None
-first_firing u b place (r ∷ rs) = or_later (first_tuple u b place r (tuples (heads_of r) b.store)) (first_firing u b (suc place) rs)
+first_firing unify branch place [] = None
+first_firing unify branch place (r ∷ rs) = or_later (first_tuple unify branch place r (tuples (heads_of r) branch.store)) (first_firing unify branch (suc place) rs)

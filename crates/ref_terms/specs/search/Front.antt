@@ -3,6 +3,7 @@ use Rattle.std.specs.Prelude.{ℕ, ◌+◌}
 use Rattle.ref_terms.specs.terms.Term.{Term, At, Con, Int, Str, Bound, Var, lam}
 use Rattle.ref_terms.specs.unification.Spine.{apply_all}
 use Rattle.ref_terms.specs.declared.tree.Tree.{Tree, fold-Tree}
+use Rattle.ref_terms.specs.declared.tree.Head.{Head, fold-Head}
 use Rattle.ref_terms.specs.declared.tree.Head.TheOpen.{Head-F, Tree-F}
 
 -- the term of a head, the abstraction in it already read; a clause's variables are numbered from `next` on
@@ -22,3 +23,7 @@ tree_term (Tree-F.Ap head args) = apply_all head args
 -- the term that a tree stands for, where its clause's variable i is the variable `next + i`
 abbrev pub term_of : (next : ℕ) → Tree → Term
 term_of next = fold-Tree Term Term (head_term next) tree_term
+
+-- the same for a head
+abbrev pub term_of_head : (next : ℕ) → Head → Term
+term_of_head next = fold-Head Term Term (head_term next) tree_term

@@ -20,27 +20,27 @@ use Rattle.ref_terms.specs.search.BranchMove.{fails, cut_to, applied_whole, goes
 
 -- the move of the goal g of this kind; gs are the goals after it
 abbrev pub kind_move : Unification → Program → Branch → Goal → List Goal → List Alternative → GoalKind → Move
-kind_move u p b g gs alts Truth = goes_on (with_goals gs b) alts
-kind_move u p b g gs alts Failing = fails alts
-kind_move u p b g gs alts Cut = goes_on (with_goals gs b) (cut_to g.barrier alts)
-kind_move u p b g gs alts (Conjunction s t) = goes_on (with_goals (goals_at g (s ∷ t ∷ []) ++ gs) b) alts
-kind_move u p b g gs alts (Disjunction s t) = goes_on (record b { goals = goals_at g (s ∷ []) ++ gs; path = LeftSide ∷ b.path })
-    (other_side (record b { goals = goals_at g (t ∷ []) ++ gs; path = RightSide ∷ b.path }) ∷ alts)
-kind_move u p b g gs alts (Assuming d t) = assumes g t b gs alts (assumptions_of g.names d)
-kind_move u p b g gs alts (ForAll f) = goes_on (with_goals (record g { names = suc g.names; term = apply f (At (Name g.names)) } ∷ gs) b) alts
-kind_move u p b g gs alts (Exists f) = goes_on (record b { goals = goals_at g (applied_whole f (variable_under g.names b.next_var) ∷ []) ++ gs; next_var = suc b.next_var }) alts
-kind_move u p b g gs alts (Suspending t k) = suspends g t b gs alts (items_of k)
-kind_move u p b g gs alts (Unifying s t) = unifies u g.names s t (with_goals gs b) alts
-kind_move u p b g gs alts (Comparing s t) = goes_or_fails (term_eq s t) (with_goals gs b) alts
-kind_move u p b g gs alts (IsVariable t) = goes_or_fails (is_flex t) (with_goals gs b) alts
-kind_move u p b g gs alts (IsName t) = goes_or_fails (is_bare_name t) (with_goals gs b) alts
-kind_move u p b g gs alts (Evaluating x e) = evaluates u g.names x (value_of e) (with_goals gs b) alts
-kind_move u p b g gs alts (Less s t) = compares (less s t) (with_goals gs b) alts
-kind_move u p b g gs alts (Printing t) = record { event = Printed (text_of (term_parts p.symbols t top 0) ++ 10 ∷ []); state = Running (with_goals gs b) alts }
-kind_move u p b g gs alts (Applying f a r) = unifies u g.names (applied_whole f a) r (with_goals gs b) alts
-kind_move u p b g gs alts (Atom c ts) = calls u p c b g gs alts (call_fault p c ts g.assumptions)
-kind_move u p b g gs alts (Wrong e) = faults e
+kind_move unify program branch goal rest alternatives Truth = goes_on (with_goals rest branch) alternatives
+kind_move unify program branch goal rest alternatives Failing = fails alternatives
+kind_move unify program branch goal rest alternatives Cut = goes_on (with_goals rest branch) (cut_to goal.barrier alternatives)
+kind_move unify program branch goal rest alternatives (Conjunction s t) = goes_on (with_goals (goals_at goal (s ∷ t ∷ []) ++ rest) branch) alternatives
+kind_move unify program branch goal rest alternatives (Disjunction s t) = goes_on (record branch { goals = goals_at goal (s ∷ []) ++ rest; path = LeftSide ∷ branch.path })
+    (other_side (record branch { goals = goals_at goal (t ∷ []) ++ rest; path = RightSide ∷ branch.path }) ∷ alternatives)
+kind_move unify program branch goal rest alternatives (Assuming d t) = assumes goal t branch rest alternatives (assumptions_of goal.names d)
+kind_move unify program branch goal rest alternatives (ForAll f) = goes_on (with_goals (record goal { names = suc goal.names; term = apply f (At (Name goal.names)) } ∷ rest) branch) alternatives
+kind_move unify program branch goal rest alternatives (Exists f) = goes_on (record branch { goals = goals_at goal (applied_whole f (variable_under goal.names branch.next_var) ∷ []) ++ rest; next_var = suc branch.next_var }) alternatives
+kind_move unify program branch goal rest alternatives (Suspending t k) = suspends goal t branch rest alternatives (items_of k)
+kind_move unify program branch goal rest alternatives (Unifying s t) = unifies unify goal.names s t (with_goals rest branch) alternatives
+kind_move unify program branch goal rest alternatives (Comparing s t) = goes_or_fails (term_eq s t) (with_goals rest branch) alternatives
+kind_move unify program branch goal rest alternatives (IsVariable t) = goes_or_fails (is_flex t) (with_goals rest branch) alternatives
+kind_move unify program branch goal rest alternatives (IsName t) = goes_or_fails (is_bare_name t) (with_goals rest branch) alternatives
+kind_move unify program branch goal rest alternatives (Evaluating x e) = evaluates unify goal.names x (value_of e) (with_goals rest branch) alternatives
+kind_move unify program branch goal rest alternatives (Less s t) = compares (less s t) (with_goals rest branch) alternatives
+kind_move unify program branch goal rest alternatives (Printing t) = record { event = Printed (text_of (term_parts program.symbols t top 0) ++ 10 ∷ []); state = Running (with_goals rest branch) alternatives }
+kind_move unify program branch goal rest alternatives (Applying f a r) = unifies unify goal.names (applied_whole f a) r (with_goals rest branch) alternatives
+kind_move unify program branch goal rest alternatives (Atom c ts) = calls unify program c branch goal rest alternatives (call_fault program c ts goal.assumptions)
+kind_move unify program branch goal rest alternatives (Wrong e) = faults e
 
 -- the first goal, with the goals after it
 abbrev pub goal_move : Unification → Program → Branch → Goal → List Goal → List Alternative → Move
-goal_move u p b g gs alts = kind_move u p b g gs alts (goal_kind g.term)
+goal_move unify program branch goal rest alternatives = kind_move unify program branch goal rest alternatives (goal_kind goal.term)

@@ -39,7 +39,7 @@ pub record ClauseInstance : Type 0 where
   pub head : Term
   pub body : List Term
 
--- of a program clause
+-- a program clause at these names
 abbrev pub clause_instance : Clause → (names next : ℕ) → ClauseInstance
 clause_instance k names next = record {
   next_var = next + k.variables;
@@ -47,7 +47,7 @@ clause_instance k names next = record {
   body = map (instance names next) (option_to_list k.body);
 }
 
--- of an assumption
+-- an assumption at these names
 abbrev pub assumption_instance : Assumption → (names next : ℕ) → ClauseInstance
 assumption_instance h names next = record {
   next_var = next + h.parameters;

@@ -24,7 +24,7 @@ paired [] [] = Some []
 paired (x ∷ xs) (y ∷ ys) = option_map (λ ps. (x, y) ∷ ps) (paired xs ys)
 paired _ _ = None
 
--- of the same variable on both sides
+-- the same, where both are spines of one variable
 abbrev pub paired_spines : Option (ℕ × List ℕ) → Option (ℕ × List ℕ) → Option (List (ℕ × ℕ))
 paired_spines (Some s) (Some t) = cond (nat_eq s.0 t.0) (paired s.1 t.1) None
 paired_spines _ _ = None
@@ -56,11 +56,11 @@ abbrev pub identified : List ℕ → List (ℕ × ℕ) → Option (List (Option 
 identified left [] o = o
 identified left (p ∷ ps) o = identified left ps (option_and_then (gets_joint p.1 (slice_index left p.0) 0) o)
 
--- one pair of the rule
+-- what one pair of the rule identifies
 abbrev pub aligned : List Constraint → List (List ℕ) → Pair → Option (List (Option ℕ)) → Option (List (Option ℕ))
 aligned cs maps p o = option_and_then (λ ps. identified (map_at maps p.left_head) ps o) (paired_spines (spine_at p.left_arg (slice_get cs p.left_head)) (spine_at p.right_arg (slice_get cs p.right_head)))
 
--- the pairs from the left
+-- what the pairs identify, from the left
 abbrev pub all_aligned : List Constraint → List (List ℕ) → List Pair → Option (List (Option ℕ)) → Option (List (Option ℕ))
 all_aligned cs maps [] o = o
 all_aligned cs maps (p ∷ ps) o = all_aligned cs maps ps (aligned cs maps p o)
@@ -77,7 +77,7 @@ missing [] = 0
 missing (Some z ∷ ms) = missing ms
 missing (None ∷ ms) = suc (missing ms)
 
--- one more head
+-- one more head with its joint names
 abbrev pub with_head : Joint → List (Option ℕ) → Joint
 with_head j ms = record { names = j.names + missing ms; maps = j.maps ++ completed j.names ms ∷ [] }
 
@@ -87,16 +87,16 @@ joined all pairs i [] j = Some j
 joined all pairs i (c ∷ cs) j = option_and_then (λ ms. joined all pairs (suc i) cs (with_head j ms))
     (all_aligned all j.maps (filter (λ p. nat_eq p.right_head i) pairs) (Some (replicate c.names None)))
 
--- the first head keeps its names
+-- the joint names of these constraints; the first head keeps its names
 abbrev pub joint : List Pair → List Constraint → Option Joint
 joint pairs [] = None
 joint pairs (c ∷ cs) = joined (c ∷ cs) pairs 1 cs (record { names = c.names; maps = names_below c.names ∷ [] })
 
--- what stands for a name
+-- the joint name in place of a name
 abbrev pub joint_head : List ℕ → Head → Term
 joint_head names (Name n) = At (Name (slice_index names n))
 joint_head names h = At h
 
--- a term of a head over the joint names
+-- a term of a constraint over the joint names
 abbrev pub over_joint : List ℕ → Term → Term
 over_joint names t = fill (joint_head names) t

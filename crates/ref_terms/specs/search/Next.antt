@@ -13,7 +13,7 @@ use Rattle.ref_terms.specs.search.GoalMove.{goal_move}
 use Rattle.ref_terms.specs.search.BranchMove.{with_later}
 use Rattle.ref_terms.specs.unification.Spine.{head_of}
 
--- some key isn't headed by a variable
+-- a constraint is awake where some key isn't headed by a variable
 abbrev pub is_awake : Constraint → Bool
 is_awake c = list_any (λ k. not (is_flex k)) c.keys
 
@@ -23,48 +23,48 @@ woken_goal barrier c = record { names = c.names; assumptions = c.assumptions; ba
 
 -- the awake constraints leave the store and become the first goals
 abbrev pub woken : Branch → (barrier : ℕ) → List Constraint → Branch
-woken b barrier up = record b { goals = map (woken_goal barrier) up ++ b.goals; store = filter (λ c. not (is_awake c)) b.store }
+woken branch barrier up = record branch { goals = map (woken_goal barrier) up ++ branch.goals; store = filter (λ c. not (is_awake c)) branch.store }
 
--- no goal is left: an answer
+-- the first goal's move; where no goal is left, an answer
 abbrev pub by_goal : Unification → Program → Branch → List Alternative → List Goal → Move
-by_goal u p b alts [] = record { event = Answered b; state = Ended (Some b) alts }
-by_goal u p b alts (g ∷ gs) = goal_move u p b g gs alts
+by_goal unify program branch alternatives [] = record { event = Answered branch; state = Ended (Some branch) alternatives }
+by_goal unify program branch alternatives (goal ∷ rest) = goal_move unify program branch goal rest alternatives
 
 -- the first rule instance or fault, else the first goal
 abbrev pub by_rule : Unification → Program → Branch → List Alternative → Option (Judged Firing) → Move
-by_rule u p b alts (Some (Good f)) = goes_on (after_firing b (length alts) f) alts
-by_rule u p b alts (Some (Bad e)) = faults e
-by_rule u p b alts None = by_goal u p b alts b.goals
+by_rule unify program branch alternatives (Some (Good f)) = goes_on (after_firing branch (length alternatives) f) alternatives
+by_rule unify program branch alternatives (Some (Bad e)) = faults e
+by_rule unify program branch alternatives None = by_goal unify program branch alternatives branch.goals
 
 -- waking, then a rule, then the first goal
 abbrev pub by_waking : Unification → Program → Branch → List Alternative → List Constraint → Move
-by_waking u p b alts (c ∷ cs) = goes_on (woken b (length alts) (c ∷ cs)) alts
-by_waking u p b alts [] = by_rule u p b alts (first_firing u b 0 p.rules)
+by_waking unify program branch alternatives (c ∷ cs) = goes_on (woken branch (length alternatives) (c ∷ cs)) alternatives
+by_waking unify program branch alternatives [] = by_rule unify program branch alternatives (first_firing unify branch 0 program.rules)
 
 -- the modes of a goal's constant
 abbrev pub constant_modes : Program → Option ℕ → Option (List Bool)
-constant_modes p (Some c) = modes_of p c
-constant_modes p None = None
+constant_modes program (Some c) = modes_of program c
+constant_modes program None = None
 
 -- the first goal once more, with the clauses that are left
 abbrev pub resolve_later : Unification → Program → Branch → (barrier : ℕ) → List Candidate → List Goal → Option (Judged Resolved)
-resolve_later u p b barrier cs [] = None
-resolve_later u p b barrier cs (g ∷ gs) = resolve u (constant_modes p (constant_of (head_of g.term))) b g gs barrier cs
+resolve_later unify program branch barrier cs [] = None
+resolve_later unify program branch barrier cs (goal ∷ rest) = resolve unify (constant_modes program (constant_of (head_of goal.term))) branch goal rest barrier cs
 
--- a branch, a fault, or the older alternatives
+-- the move of a retry: a branch, a fault, or what the older alternatives give
 abbrev pub retaken : Branch → List Alternative → Move → Option (Judged Resolved) → Move
-retaken b alts older (Some (Good r)) = goes_on r.branch (with_later b r.later alts)
-retaken b alts older (Some (Bad e)) = faults e
-retaken b alts older None = older
+retaken branch alternatives older (Some (Good r)) = goes_on r.branch (with_later branch r.later alternatives)
+retaken branch alternatives older (Some (Bad e)) = faults e
+retaken branch alternatives older None = older
 
 -- the newest alternative that gives a branch or a fault
 abbrev pub retry : Unification → Program → List Alternative → Move
-retry u p [] = stops Failure
-retry u p (other_side b ∷ alts) = goes_on b alts
-retry u p (later_clauses b cs ∷ alts) = retaken b alts (retry u p alts) (resolve_later u p b (length alts) cs b.goals)
+retry unify program [] = stops Failure
+retry unify program (other_side branch ∷ alternatives) = goes_on branch alternatives
+retry unify program (later_clauses branch cs ∷ alternatives) = retaken branch alternatives (retry unify program alternatives) (resolve_later unify program branch (length alternatives) cs branch.goals)
 
 -- one move
 unfoldable pub next : Unification → Program → State → Move
-next u p (Running b alts) = by_waking u p b alts (filter is_awake b.store)
-next u p (Ended b alts) = retry u p alts
-next u p (Over e) = record { event = e; state = Over e }
+next unify program (Running branch alternatives) = by_waking unify program branch alternatives (filter is_awake branch.store)
+next unify program (Ended branch alternatives) = retry unify program alternatives
+next unify program (Over e) = record { event = e; state = Over e }

@@ -9,18 +9,18 @@ pub record Pred : Type 0 where
   pub name : ℕ
   pub inputs : List Bool
 
--- the variables of a clause are Var 0, Var 1, .. below the number of its variables
+-- a program clause; its variables are Var 0, Var 1, .. below their number
 pub record Clause : Type 0 where
   pub variables : ℕ
   pub head : Term
   pub body : Option Term
 
--- the context is a variable of the rule
+-- a head of a rule; its context, if any, is a variable of the rule
 pub record RuleHead : Type 0 where
   pub context : Option ℕ
   pub goal : Term
 
--- names are those of its block; there is a head at least
+-- a constraint rule; its names are those of its block, and there is a head at least
 pub record Rule : Type 0 where
   pub names : List ℕ
   pub variables : ℕ
@@ -30,7 +30,7 @@ pub record Rule : Type 0 where
   pub tests : List Term
   pub body : Option Term
 
--- the texts of the symbols by their numbers; the rest in text order
+-- a checked program: the texts of the symbols by their numbers, and the rest in text order
 pub record Program : Type 0 where
   pub symbols : List (List ℕ)
   pub preds : List Pred
@@ -42,7 +42,7 @@ pub record QueryVar : Type 0 where
   pub name : ℕ
   pub shown : Bool
 
--- its variables are Var 0, Var 1, .. in order of first place
+-- a query; its variables are Var 0, Var 1, .. in order of first place
 pub record Query : Type 0 where
   pub variables : List QueryVar
   pub goal : Term

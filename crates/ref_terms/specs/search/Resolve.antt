@@ -25,34 +25,34 @@ equations_at mode names _ _ _ = []
 
 -- the body as first goals, with this barrier, before the other goals
 abbrev pub entered : Branch → Goal → List Goal → (barrier : ℕ) → Candidate → List Term → Branch
-entered b g gs barrier c body = record b { goals = map (λ t. record g { barrier = barrier; term = t }) body ++ gs; path = choice_of c ∷ b.path }
+entered branch goal rest barrier c body = record branch { goals = map (λ t. record goal { barrier = barrier; term = t }) body ++ rest; path = choice_of c ∷ branch.path }
 
--- after the outputs
+-- what a clause comes to after its outputs were unified
 abbrev pub unified : Branch → List Binding → Answer → Tried
-unified b older (Solved q) = Fits (bound_branch (q.bindings ++ older) q.next_var b)
-unified b older (Clashed knot) = Clashes
-unified b older (UnifyFaulted f) = Breaks (of_unification f)
+unified branch older (Solved q) = Fits (bound_branch (q.bindings ++ older) q.next_var branch)
+unified branch older (Clashed knot) = Clashes
+unified branch older (UnifyFaulted f) = Breaks (of_unification f)
 
--- after the inputs, in which all variables older than the instance are frozen
+-- what a clause comes to after its inputs were matched: its outputs are unified next, with no variable frozen
 abbrev pub matched : Unification → Branch → List Equation → Answer → Tried
-matched u b outputs (Solved q) = unified b q.bindings (u 0 (record { next_var = q.next_var; equations = map (bound_equation q.bindings) outputs; bindings = [] }))
-matched u b outputs (Clashed knot) = Clashes
-matched u b outputs (UnifyFaulted f) = Breaks (of_unification f)
+matched unify branch outputs (Solved q) = unified branch q.bindings (unify 0 (record { next_var = q.next_var; equations = map (bound_equation q.bindings) outputs; bindings = [] }))
+matched unify branch outputs (Clashed knot) = Clashes
+matched unify branch outputs (UnifyFaulted f) = Breaks (of_unification f)
 
--- the modes of a predicate without a declaration are outputs
+-- a clause with another number of arguments clashes; in matching all variables older than the instance are frozen; without stated modes all arguments are outputs
 abbrev pub try_instance : Unification → Option (List Bool) → Branch → Goal → List Goal → (barrier : ℕ) → Candidate → ClauseInstance → Tried
-try_instance u modes b g gs barrier c k =
+try_instance unify modes branch goal rest barrier c k =
     let ss = args_of k.head in
-    let ts = args_of g.term in
+    let ts = args_of goal.term in
     let ms = unwrap_or modes (replicate (length ts) false) in
     cond (nat_eq (length ss) (length ts))
-    (matched u (entered b g gs barrier c k.body) (equations_at false g.names ms ss ts)
-    (u b.next_var (record { next_var = k.next_var; equations = equations_at true g.names ms ss ts; bindings = [] })))
+    (matched unify (entered branch goal rest barrier c k.body) (equations_at false goal.names ms ss ts)
+    (unify branch.next_var (record { next_var = k.next_var; equations = equations_at true goal.names ms ss ts; bindings = [] })))
     Clashes
 
--- one clause for the first goal
+-- what a clause comes to for the first goal
 abbrev pub try : Unification → Option (List Bool) → Branch → Goal → List Goal → (barrier : ℕ) → Candidate → Tried
-try u modes b g gs barrier c = try_instance u modes b g gs barrier c (candidate_instance c g.names b.next_var)
+try unify modes branch goal rest barrier c = try_instance unify modes branch goal rest barrier c (candidate_instance c goal.names branch.next_var)
 
 -- the branch of the first clause that doesn't clash, with the clauses after it
 pub record Resolved : Type 0 where
@@ -61,11 +61,11 @@ pub record Resolved : Type 0 where
 
 -- the first clause that fits or breaks decides, else the rest
 abbrev pub decided : List Candidate → Option (Judged Resolved) → Tried → Option (Judged Resolved)
-decided later rest (Fits b) = Some (Good (record { branch = b; later = later }))
+decided later rest (Fits branch) = Some (Good (record { branch = branch; later = later }))
 decided later rest Clashes = rest
 decided later rest (Breaks f) = Some (Bad f)
 
--- none where all clauses clash
+-- the first of these clauses that doesn't clash; none where all clash
 abbrev pub resolve : Unification → Option (List Bool) → Branch → Goal → List Goal → (barrier : ℕ) → List Candidate → Option (Judged Resolved)
-resolve u modes b g gs barrier [] = None
-resolve u modes b g gs barrier (c ∷ cs) = decided cs (resolve u modes b g gs barrier cs) (try u modes b g gs barrier c)
+resolve unify modes branch goal rest barrier [] = None
+resolve unify modes branch goal rest barrier (c ∷ cs) = decided cs (resolve unify modes branch goal rest barrier cs) (try unify modes branch goal rest barrier c)

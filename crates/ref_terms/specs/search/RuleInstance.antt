@@ -65,34 +65,34 @@ tested r names next f cs value = cond (list_all (λ t. holds (value t)) r.tests)
     (Some (judged_map (firing r names next f value) (body_assumptions r names value cs)))
     None
 
--- by the answer of matching
+-- what follows from the answer of matching: a clash refuses the instance
 abbrev pub after_matching : Rule → (names next : ℕ) → Fired → List Constraint → Answer → Option (Judged Firing)
 after_matching r names next f cs (Solved q) = tested r names q.next_var f cs (matched_value names next q.bindings)
 after_matching r names next f cs (Clashed knot) = None
 after_matching r names next f cs (UnifyFaulted e) = Some (Bad (of_unification e))
 
--- matching at the joint names
+-- matching at the joint names, with all older variables frozen; without joint names the instance is refused
 abbrev pub matched_at : Unification → (next : ℕ) → Rule → Fired → List Constraint → Option Joint → Option (Judged Firing)
-matched_at u next r f cs None = None
-matched_at u next r f cs (Some j) = after_matching r j.names next f cs
-    (u next (record { next_var = next + r.variables; equations = match_equations r j.names next (heads_of r) j.maps cs; bindings = [] }))
+matched_at unify next r f cs None = None
+matched_at unify next r f cs (Some j) = after_matching r j.names next f cs
+    (unify next (record { next_var = next + r.variables; equations = match_equations r j.names next (heads_of r) j.maps cs; bindings = [] }))
 
--- where the pair hasn't fired and the heads fit
+-- matching, where the pair hasn't fired and the heads fit
 abbrev pub admitted : Unification → (next : ℕ) → Rule → Fired → List Constraint → Bool → Option (Judged Firing)
-admitted u next r f cs false = None
-admitted u next r f cs true = matched_at u next r f cs (joint r.pairs cs)
+admitted unify next r f cs false = None
+admitted unify next r f cs true = matched_at unify next r f cs (joint r.pairs cs)
 
--- of a rule, with its place, and constraints: none where it is refused
+-- the firing of the rule at this place on these constraints: none where it is refused, a fault where matching ends in one
 abbrev pub rule_instance : Unification → Branch → (place : ℕ) → Rule → List Constraint → Option (Judged Firing)
-rule_instance u b place r cs =
+rule_instance unify branch place r cs =
     let f : Fired = record { rule = place; constraints = map (λ c. c.number) cs } in
-    admitted u b.next_var r f cs (not (is_fired f b.fired) && fit_heads (heads_of r) cs)
+    admitted unify branch.next_var r f cs (not (is_fired f branch.fired) && fit_heads (heads_of r) cs)
 
--- the branch after firing
+-- the branch after firing: the body is the first goal, and the removed constraints leave the store
 abbrev pub after_firing : Branch → (barrier : ℕ) → Firing → Branch
-after_firing b barrier f = record b {
-  goals = record { names = f.names; assumptions = f.assumptions; barrier = barrier; term = f.body } ∷ b.goals;
-  store = filter (λ c. not (list_any (nat_eq c.number) f.removed)) b.store;
-  fired = b.fired ++ f.fired ∷ [];
+after_firing branch barrier f = record branch {
+  goals = record { names = f.names; assumptions = f.assumptions; barrier = barrier; term = f.body } ∷ branch.goals;
+  store = filter (λ c. not (list_any (nat_eq c.number) f.removed)) branch.store;
+  fired = branch.fired ++ f.fired ∷ [];
   next_var = f.next_var;
 }

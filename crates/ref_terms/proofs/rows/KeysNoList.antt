@@ -1,0 +1,30 @@
+-- Program: empty
+-- Query: declare_constraint true X
+-- Moves: 1
+use Rattle.std.proofs.Common.{◌≡◌, true, [], ◌∷◌, ◌++◌, codes, refl}
+use Rattle.std.specs.Fmt.{digits}
+use Rattle.ref_terms.specs.terms.Term.{App}
+use Rattle.ref_terms.specs.terms.Ready.{ready}
+use Rattle.ref_terms.specs.unification.Unify.{step}
+use Rattle.ref_terms.specs.search.Program.{Program, Query}
+use Rattle.ref_terms.proofs.rows.Output.{output}
+use Rattle.ref_terms.specs.search.Next.{next}
+use Rattle.ref_terms.proofs.Samples.{constant, variable, table, lines}
+
+-- the program
+abbrev program : Program
+program = record {
+  symbols = table ++ codes "X" ∷ [];
+  preds = [];
+  clauses = [];
+  rules = [];
+}
+
+-- the query
+abbrev query : Query
+query = record { variables = record { name = 25; shown = true } ∷ []; goal = App (App (constant 17) (constant 0)) (variable 0) }
+
+-- what the run writes
+pub row : output program query 1 0 ≡ lines (codes "fault: not-goal" ∷ [])
+unfolding step ready next digits
+row = refl

@@ -1,0 +1,30 @@
+-- Program: empty
+-- Query: same X Y
+-- Moves: 2
+use Rattle.std.proofs.Common.{◌≡◌, true, [], ◌∷◌, ◌++◌, codes, refl}
+use Rattle.std.specs.Fmt.{digits}
+use Rattle.ref_terms.specs.terms.Term.{App}
+use Rattle.ref_terms.specs.terms.Ready.{ready}
+use Rattle.ref_terms.specs.unification.Unify.{step}
+use Rattle.ref_terms.specs.search.Program.{Program, Query}
+use Rattle.ref_terms.proofs.rows.Output.{output}
+use Rattle.ref_terms.specs.search.Next.{next}
+use Rattle.ref_terms.proofs.Samples.{constant, variable, table, lines}
+
+-- the program
+abbrev program : Program
+program = record {
+  symbols = table ++ codes "X" ∷ codes "Y" ∷ [];
+  preds = [];
+  clauses = [];
+  rules = [];
+}
+
+-- the query
+abbrev query : Query
+query = record { variables = record { name = 25; shown = true } ∷ record { name = 26; shown = true } ∷ []; goal = App (App (constant 10) (variable 0)) (variable 1) }
+
+-- what the run writes
+pub row : output program query 2 0 ≡ lines (codes "failure" ∷ [])
+unfolding step ready next digits
+row = refl

@@ -1,0 +1,29 @@
+-- Program: empty
+-- Query: true
+-- Moves: 3
+use Rattle.std.proofs.Common.{◌≡◌, [], ◌∷◌, ◌++◌, codes, refl}
+use Rattle.std.specs.Fmt.{digits}
+use Rattle.ref_terms.specs.terms.Ready.{ready}
+use Rattle.ref_terms.specs.unification.Unify.{step}
+use Rattle.ref_terms.specs.search.Program.{Program, Query}
+use Rattle.ref_terms.proofs.rows.Output.{output}
+use Rattle.ref_terms.specs.search.Next.{next}
+use Rattle.ref_terms.proofs.Samples.{constant, table, lines}
+
+-- the program
+abbrev program : Program
+program = record {
+  symbols = table ++ [];
+  preds = [];
+  clauses = [];
+  rules = [];
+}
+
+-- the query
+abbrev query : Query
+query = record { variables = []; goal = constant 0 }
+
+-- what the run writes
+pub row : output program query 1000000 0 ≡ lines (codes "answer 1" ∷ codes "no more" ∷ [])
+unfolding step ready next digits
+row = refl
