@@ -1,7 +1,9 @@
 -- Unification ends.
 use Rattle.std.proofs.Common.{◌≡◌, ℕ, suc, refl, ap, ◌∙◌, List, [], ◌∷◌, ◌++◌, length, arith, inl, inr}
-use Rattle.ref_terms.specs.unification.Spine.{shape}
-use Rattle.ref_terms.specs.unification.Unify.{Equation, Problem, Answer, Step, Goes, Ends, step_at, step, after, run, Unifies}
+use Rattle.ref_terms.specs.unification.Shape.{shape}
+use Rattle.ref_terms.specs.unification.Problem.{Equation, Problem, Answer, Step, Goes, Ends}
+use Rattle.ref_terms.specs.unification.Rules.{step_at, step}
+use Rattle.ref_terms.specs.unification.Run.{after, run, Unifies}
 use Rattle.ref_terms.specs.ending.Measure.{fits-map}
 use Rattle.ref_terms.specs.ending.Bounds.{Among, bounded-downward, variables_of, fits-listed, mem-append-left, mem-append-right}
 use Rattle.ref_terms.specs.ending.Progress.{AllFit, Good, sizes, all-good, all-some-bound, AreBuilt, room_of, one_isnt, Moves, Here}

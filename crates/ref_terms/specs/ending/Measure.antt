@@ -1,9 +1,12 @@
 -- How many arguments a variable may get, and how large a term is: nothing that rebuilds a term raises these.
 use Rattle.std.proofs.Common.{◌≡◌, ℕ, zero, suc, ◌+◌, ◌≤◌, ◌<◌, Bool, true, false, cond, ◌||◌, nat_eq, refl, sym, ap, ap₂, ◌∙◌, subst, Option, Some, None, IfSome, arith, eqb-true}
-use Rattle.ref_terms.specs.terms.Term.{Term, Lam, At, App, Head, Con, Int, Str, Name, Bound, Var, ren, up, next, shift, under, sub, first, eta, lam, lam_of}
+use Rattle.ref_terms.specs.terms.Term.{Term, Lam, At, App, Head, Con, Int, Str, Name, Bound, Var}
+use Rattle.ref_terms.specs.terms.Index.{ren, up, next, shift, under, sub, first}
+use Rattle.ref_terms.specs.terms.Eta.{eta, lam, lam_of}
 use Rattle.ref_terms.specs.terms.Ready.{ready}
 use Rattle.ref_terms.specs.terms.Apply.{apply, below, fill}
-use Rattle.ref_terms.specs.terms.Occurs.{is_variable, only, inst, occurs}
+use Rattle.ref_terms.specs.terms.Occurs.{is_variable, occurs}
+use Rattle.ref_terms.specs.terms.Instance.{only, inst}
 use Rattle.ref_terms.specs.lemmas.EtaLemmas.{eta-some}
 use Rattle.ref_terms.specs.terms.Built.{IsBuilt, IsStuck}
 use Rattle.ref_terms.specs.terms.Renamed.{vars, vars_head}

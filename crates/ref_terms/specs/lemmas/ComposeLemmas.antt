@@ -1,7 +1,9 @@
 -- Replacing heads twice is replacing them once.
 use Rattle.std.proofs.Common.{◌≡◌, ℕ, zero, suc, Bool, true, false, cond, refl, sym, ap, ap₂, ◌∙◌, Option, Some, None, IfSome}
 use mathlib.Core.Path.{fun_ext}
-use Rattle.ref_terms.specs.terms.Term.{Term, Lam, At, App, Head, Con, Int, Str, Name, Bound, Var, ren, ren_head, up, next, shift, under, sub, sub_head, first, eta, lam, lam_of}
+use Rattle.ref_terms.specs.terms.Term.{Term, Lam, At, App, Head, Con, Int, Str, Name, Bound, Var}
+use Rattle.ref_terms.specs.terms.Index.{ren, ren_head, up, next, shift, under, sub, sub_head, first}
+use Rattle.ref_terms.specs.terms.Eta.{eta, lam, lam_of}
 use Rattle.ref_terms.specs.terms.Ready.{ready}
 use Rattle.ref_terms.specs.terms.Apply.{apply, below, fill}
 use Rattle.ref_terms.specs.terms.Built.{IsBuilt}

@@ -1,6 +1,7 @@
 -- The facts on ready terms; nothing else looks into `ready`.
 use Rattle.std.proofs.Common.{◌≡◌, ℕ, true, false, refl, ap, ◌∙◌}
-use Rattle.ref_terms.specs.terms.Term.{Term, Lam, At, App, Head, Con, Name, Bound, Var, ren, sub}
+use Rattle.ref_terms.specs.terms.Term.{Term, Lam, At, App, Head, Con, Name, Bound, Var}
+use Rattle.ref_terms.specs.terms.Index.{ren, sub}
 use Rattle.ref_terms.specs.terms.Ready.{ready}
 use Rattle.ref_terms.specs.terms.Renamed.{vars}
 use Rattle.ref_terms.specs.terms.Apply.{fill}

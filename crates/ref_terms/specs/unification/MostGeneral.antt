@@ -1,10 +1,12 @@
 -- The bindings of a run are a most general unifier.
 use Rattle.std.specs.Prelude.{◌≡◌, ℕ, ◌<◌, ◌≤◌, cond, false, nat_eq, List, [], ◌∷◌}
-use Rattle.ref_terms.specs.terms.Term.{Term, At, Var, ren}
-use Rattle.ref_terms.specs.terms.Apply.{inst_all}
-use Rattle.ref_terms.specs.terms.Occurs.{occurs}
-use Rattle.ref_terms.specs.unification.Unify.{Equation, Binding, Problem, Solved, Unifies}
-use Rattle.ref_terms.specs.unification.Unifier.{has_name, IsSubstitution, Solves}
+use Rattle.ref_terms.specs.terms.Term.{Term, At, Var}
+use Rattle.ref_terms.specs.terms.Index.{ren}
+use Rattle.ref_terms.specs.terms.Instance.{inst_all}
+use Rattle.ref_terms.specs.terms.Occurs.{occurs, has_name}
+use Rattle.ref_terms.specs.unification.Problem.{Equation, Binding, Problem, Solved}
+use Rattle.ref_terms.specs.unification.Run.{Unifies}
+use Rattle.ref_terms.specs.unification.Unifier.{IsSubstitution, Solves}
 
 -- the binding, and then the choice for the other variables
 abbrev pub follow : Binding → (ℕ → Term) → ℕ → Term

@@ -2,7 +2,9 @@
 use Rattle.std.specs.Prelude.{◌≡◌, ℕ, ◌≤◌, false, Some, List, [], ◌∷◌}
 use Rattle.ref_terms.specs.terms.Term.{Bound, Term}
 use Rattle.ref_terms.specs.unification.Spine.{head_of}
-use Rattle.ref_terms.specs.unification.Unify.{Equation, Problem, Clashed, Goes, Ends, step, Unifies}
+use Rattle.ref_terms.specs.unification.Problem.{Equation, Problem, Clashed, Goes, Ends}
+use Rattle.ref_terms.specs.unification.Rules.{step}
+use Rattle.ref_terms.specs.unification.Run.{Unifies}
 use Rattle.ref_terms.specs.unification.Unifier.{Solves}
 use Rattle.ref_terms.specs.unification.MostGeneral.{IsChoice, AreProper}
 

@@ -1,7 +1,7 @@
 -- Problems that differ in the numbers of their variables.
 use Rattle.std.specs.Prelude.{◌≡◌, ℕ, nat_eq, nat_lt, map}
 use Rattle.ref_terms.specs.terms.Renamed.{vars}
-use Rattle.ref_terms.specs.unification.Unify.{Equation, Binding, Problem, Answer, Solved, Clashed, Faulted, Step, Goes, Ends}
+use Rattle.ref_terms.specs.unification.Problem.{Equation, Binding, Problem, Answer, Solved, Clashed, Faulted, Step, Goes, Ends}
 
 abbrev pub equation_vars : (ℕ → ℕ) → Equation → Equation
 equation_vars p e = record { names = e.names; left = vars p e.left; right = vars p e.right }
