@@ -1,1 +1,2 @@
+pub mod terms
 pub mod unification

@@ -4,13 +4,14 @@ use Rattle.ref_terms.specs.terms.Term.{Term, At, Var}
 use Rattle.ref_terms.specs.terms.Built.{IsBuilt}
 use Rattle.ref_terms.specs.terms.Occurs.{is_variable, occurs}
 use Rattle.ref_terms.specs.terms.Instance.{only, inst}
-use Rattle.ref_terms.specs.lemmas.FillLemmas.{AllBuilt, built-fill}
+use Rattle.ref_terms.specs.lemmas.FillLemmas.{built-fill}
 use Rattle.ref_terms.specs.unification.Closing.{close_all, keeping}
 use Rattle.ref_terms.specs.unification.Problem.{Equation, Problem, Step, Goes, Ends}
 use Rattle.ref_terms.specs.unification.Bind.{inst_equation, bind, bind_fresh}
 use Rattle.ref_terms.specs.ending.Fits.{Fits}
 use Rattle.ref_terms.specs.ending.Measure.{Downward, fits-inst, fits-any, loose-any, Loose, fits-loose, HeadIsNot, loose-inst, loose-lacks, size, size-renamed}
 use Rattle.ref_terms.specs.ending.Bounds.{mem, without, total, Among, Bounded, among-downward, bounded-downward, eq-self, mem-first, mem-later, mem-without, length-without-mem, total-without-mem, changed, total-changed, less, less-is, fits-close_all, fits-keeping, fits-some-bound}
+use Rattle.ref_terms.specs.laws.TermLaws.{AllBuilt}
 
 -- equations
 abbrev pub AllFit : (ℕ → ℕ → Type 0) → List Equation → Type 0

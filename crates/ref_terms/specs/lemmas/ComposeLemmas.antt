@@ -9,9 +9,10 @@ use Rattle.ref_terms.specs.terms.Apply.{apply, below, fill}
 use Rattle.ref_terms.specs.terms.Built.{IsBuilt}
 use Rattle.ref_terms.specs.lemmas.TermLemmas.{under_up, ren-ren, sub-ren, ren-sub, ren_sub, sub_id}
 use Rattle.ref_terms.specs.lemmas.EtaLemmas.{sub-lam, eta-some, lower-shift}
-use Rattle.ref_terms.specs.lemmas.ReadyFacts.{ready-bound, ready-ren, ready-fill, KeepsReady}
+use Rattle.ref_terms.specs.lemmas.ReadyFacts.{ready-bound, ready-ren, ready-fill}
 use Rattle.ref_terms.specs.lemmas.ApplyLemmas.{AllReady, ready-under, ready-first, sub-apply}
-use Rattle.ref_terms.specs.lemmas.FillLemmas.{AllBuilt, built-fill, apply-lam, below-built}
+use Rattle.ref_terms.specs.lemmas.FillLemmas.{built-fill, apply-lam, below-built}
+use Rattle.ref_terms.specs.laws.TermLaws.{KeepsReady, AllBuilt}
 
 -- replacing heads after a renaming
 pub ren-apply : (g : ℕ → ℕ) (f a : Term) → ren g (apply f a) ≡ apply (ren g f) (ren g a)

@@ -7,13 +7,11 @@ use Rattle.ref_terms.specs.terms.Eta.{eta, lam, lam_of}
 use Rattle.ref_terms.specs.terms.Ready.{ready}
 use Rattle.ref_terms.specs.terms.Apply.{apply, below, fill}
 use Rattle.ref_terms.specs.terms.Built.{IsBuilt, IsStuck}
+use Rattle.ref_terms.specs.laws.TermLaws.{AllBuilt}
 use Rattle.ref_terms.specs.lemmas.TermLemmas.{under_up, sub-ren, ren_sub, sub_id}
 use Rattle.ref_terms.specs.lemmas.EtaLemmas.{eta-sub, eta-some}
 use Rattle.ref_terms.specs.lemmas.ReadyFacts.{ready-bound, ready-lam, ready-sub, ready-ren}
 use Rattle.ref_terms.specs.lemmas.ApplyLemmas.{AllReady, ready-under, ready-first}
-
-abbrev pub AllBuilt : (Head → Term) → Type 0
-AllBuilt r = (h : Head) → IsBuilt (r h)
 
 -- substituting ready terms that are built
 stuck_ready : (f a : Term) → ready f ≡ true → IsStuck f a

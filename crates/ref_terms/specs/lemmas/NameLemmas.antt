@@ -9,13 +9,14 @@ use Rattle.ref_terms.specs.terms.Apply.{apply, below, fill}
 use Rattle.ref_terms.specs.terms.Instance.{valued, inst_all}
 use Rattle.ref_terms.specs.terms.Built.{IsBuilt}
 use Rattle.ref_terms.specs.lemmas.TermLemmas.{ren_id}
-use Rattle.ref_terms.specs.lemmas.ReadyFacts.{ready-name, ready-bound, ready-var, KeepsReady}
-use Rattle.ref_terms.specs.lemmas.FillLemmas.{AllBuilt, built-fill}
+use Rattle.ref_terms.specs.lemmas.ReadyFacts.{ready-name, ready-bound, ready-var}
+use Rattle.ref_terms.specs.lemmas.FillLemmas.{built-fill}
 use Rattle.ref_terms.specs.lemmas.ComposeLemmas.{fill-apply, fill-ren, lam-apply}
 use Rattle.ref_terms.specs.lemmas.OccursLemmas.{fill_at}
 use Rattle.ref_terms.specs.unification.Closing.{closing, close}
 use Rattle.ref_terms.specs.terms.Occurs.{is_name, has_name}
 use Rattle.ref_terms.specs.unification.Unifier.{IsSubstitution}
+use Rattle.ref_terms.specs.laws.TermLaws.{KeepsReady, AllBuilt}
 
 pub or_left : (a b : Bool) → (a || b) ≡ false → a ≡ false
 or_left false b e = refl
