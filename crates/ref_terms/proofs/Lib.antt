@@ -1,2 +1,3 @@
+pub mod examples
 pub mod terms
 pub mod unification
