@@ -1,4 +1,6 @@
 pub mod FrozenExamples
+pub mod KnotExamples
+pub mod MostGeneralExample
 pub mod OffenceExamples
 pub mod QueryExamples
 pub mod RuleExamples

@@ -5,6 +5,7 @@ pub mod Offence
 pub mod Pattern
 pub mod Positions
 pub mod Problem
+pub mod Proper
 pub mod RealClash
 pub mod Renamed
 pub mod Rules

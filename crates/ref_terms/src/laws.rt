@@ -3,6 +3,8 @@
 ghost use Rattle.ref_terms.specs.laws.TermLaws.{FillTwiceIsOnce, FillAppliesTheSame, FillAbstractsTheSame, InstanceApplies, InstanceOfAllApplies, ApplicationBuilds, AbstractionBuilds, FillBuilds, BuiltStays, AbsentVariable, OpeningIsReplacing, ApplicationOpens, AbstractionUndoesApplication, ApplicationUndoesAbstraction};
 ghost use Rattle.ref_terms.specs.laws.ReadyLaws.{NameIsReady, BoundIndexIsReady, ReadyIsRigid, ReadyAfterInstance, ReadyAfterOpening, UnreadyAfterOpening};
 ghost use Rattle.ref_terms.specs.laws.UnifyLaws.{HasOneAnswer, UnificationEnds, UnifyIsReached, UnifyIsTheOnlyAnswer, StepKeepsAnswer, LastStepAnswers, StepsFall, LastStepIsOne};
+ghost use Rattle.ref_terms.specs.unification.MostGeneral.{MostGeneral};
+ghost use Rattle.ref_terms.specs.unification.RealClash.{RealClash, RealClashes};
 
 /// Replacing heads twice is replacing them once, and it commutes with application and abstraction.
 ///
@@ -82,4 +84,18 @@ pub fn law_unify_follows_steps()
 pub fn law_steps_fall()
     ensures goes { StepsFall }
     ensures ends { LastStepIsOne }
+{}
+
+/// Where `unify` solves a problem, its bindings are a most general unifier of it.
+pub fn law_most_general()
+    ensures { MostGeneral }
+{}
+
+/// Where `unify` answers with a clash that is no knot, the problem has no unifier.
+///
+/// `rule` says so of the clash of one rule, which needs less of the problem. A knot may have a
+/// unifier: `X x y = x (X y)` clashes by one, and `X = (a\ a)` solves it.
+pub fn law_real_clashes()
+    ensures rule { RealClash }
+    ensures run { RealClashes }
 {}

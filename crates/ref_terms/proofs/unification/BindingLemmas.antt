@@ -14,7 +14,7 @@ use Rattle.ref_terms.specs.unification.Closing.{closing, close, close_all}
 use Rattle.ref_terms.specs.unification.Problem.{Equation}
 use Rattle.ref_terms.specs.unification.Bind.{inst_equation}
 use Rattle.ref_terms.specs.terms.Occurs.{has_name}
-use Rattle.ref_terms.specs.unification.Unifier.{IsSubstitution, Solves}
+use Rattle.ref_terms.specs.unification.Unifier.{IsSubstitution, IsUnifier}
 use Rattle.ref_terms.specs.lemmas.NameLemmas.{close-apply, fill-agree_names, fill_ren, closing_built, closing_keeps, closing_shift, valued_built, valued_keeps}
 
 module _ (u : ℕ → Term) (good : IsSubstitution u) where
@@ -77,6 +77,6 @@ module _ (u : ℕ → Term) (good : IsSubstitution u) where
   pub inst-forced : (v : ℕ) (c : Term) → u v ≡ inst_all u c → (t : Term) → inst_all u (inst v c t) ≡ inst_all u t
   inst-forced v c e t = fill-fill (valued u) (only v c) (valued_built u good) (valued_keeps u) t ∙ ap (λ r. fill r t) (fun_ext (forced v c e))
 
-  pub binding-keeps : (v : ℕ) (c : Term) → u v ≡ inst_all u c → (es : List Equation) → Solves u es → Solves u (map (inst_equation v c) es)
+  pub binding-keeps : (v : ℕ) (c : Term) → u v ≡ inst_all u c → (es : List Equation) → IsUnifier u es → IsUnifier u (map (inst_equation v c) es)
   binding-keeps v c e [] s = tt
   binding-keeps v c e (q ∷ es) s = (inst-forced v c e q.left ∙ s.0 ∙ sym (inst-forced v c e q.right), binding-keeps v c e es s.1)

@@ -17,7 +17,7 @@ use Rattle.ref_terms.specs.unification.Offence.{Verdict, fine, redex, scope, its
 use Rattle.ref_terms.specs.unification.Positions.{all_but}
 use Rattle.ref_terms.specs.terms.Occurs.{has_name}
 use Rattle.ref_terms.specs.lemmas.NameLemmas.{has_name-ren, or_left, or_right, or_both}
-use Rattle.ref_terms.specs.unification.MostGeneral.{IsChoice}
+use Rattle.ref_terms.specs.unification.Unifier.{IsChoice}
 use Rattle.std.proofs.lemmas.Bool.Decides.{Decides-ltb}
 use Rattle.ref_terms.specs.ending.Rules.{Frozen}
 use Rattle.ref_terms.specs.ending.Bounds.{mem}

@@ -17,8 +17,8 @@ use Rattle.ref_terms.specs.unification.Problem.{Equation, Binding, Problem, Solv
 use Rattle.ref_terms.specs.unification.Bind.{inst_equation, bind, bind_fresh}
 use Rattle.ref_terms.specs.unification.Positions.{agreeing, shared, positions_of, all_but}
 use Rattle.ref_terms.specs.unification.Rules.{same_variable, two_variables, by_verdict, bind_to, flex_flex, head_eq, equations_of, rule, step_at, step}
-use Rattle.ref_terms.specs.unification.Unifier.{IsSubstitution, Solves}
-use Rattle.ref_terms.specs.unification.MostGeneral.{follow, through, IsChoice}
+use Rattle.ref_terms.specs.unification.Unifier.{IsSubstitution, IsUnifier, IsChoice}
+use Rattle.ref_terms.specs.unification.MostGeneral.{follow, through}
 use Rattle.ref_terms.specs.lemmas.NameLemmas.{abstraction-same, valued_built, valued_keeps, nat_eq_self}
 use Rattle.ref_terms.proofs.unification.BindingLemmas.{inst-close_all, inst-applied, binding-keeps}
 use Rattle.ref_terms.specs.ending.Measure.{fits-lacks}
@@ -36,8 +36,8 @@ pub record Kept (m q : ℕ) (old : List Binding) (es : List Equation) (p : Probl
   pub made : List Binding
   pub bindings : p.bindings ≡ made ++ old
   pub values : Values p.next_var made
-  pub back : (s : ℕ → Term) → IsChoice m s → Solves s p.equations → IsChoice m (through made s) × Solves (through made s) es
-  pub forth : (u : ℕ → Term) → IsChoice m u → Solves u es → (s : ℕ → Term) × IsChoice m s × Agree q u s × Solves s p.equations × Forced s made
+  pub back : (s : ℕ → Term) → IsChoice m s → IsUnifier s p.equations → IsChoice m (through made s) × IsUnifier (through made s) es
+  pub forth : (u : ℕ → Term) → IsChoice m u → IsUnifier u es → (s : ℕ → Term) × IsChoice m s × Agree q u s × IsUnifier s p.equations × Forced s made
 
 abbrev pub StepKeeps : ℕ → Problem → List Equation → Step → Type 0
 StepKeeps m p es (Goes r) = Kept m p.next_var p.bindings es r
@@ -80,13 +80,13 @@ map-length : (g : Term → Term) (xs : List Term) → length (map g xs) ≡ leng
 map-length g [] = refl
 map-length g (x ∷ xs) = ap suc (map-length g xs)
 
-args-back : (s : ℕ → Term) (n : ℕ) (xs ys : List Term) (es : List Equation) → length xs ≡ length ys → Solves s (equations_of n xs ys ++ es) → (map (inst_all s) xs ≡ map (inst_all s) ys) × Solves s es
+args-back : (s : ℕ → Term) (n : ℕ) (xs ys : List Term) (es : List Equation) → length xs ≡ length ys → IsUnifier s (equations_of n xs ys ++ es) → (map (inst_all s) xs ≡ map (inst_all s) ys) × IsUnifier s es
 args-back s n [] [] es l h = (refl, h)
 args-back s n [] (y ∷ ys) es l h = absurd (omega arith)
 args-back s n (x ∷ xs) [] es l h = absurd (omega arith)
 args-back s n (x ∷ xs) (y ∷ ys) es l h = let r = args-back s n xs ys es (omega arith) h.1 in (ap₂ (λ (z : Term) (zs : List Term). z ∷ zs) h.0 r.0, r.1)
 
-args-forth : (s : ℕ → Term) (n : ℕ) (xs ys : List Term) (es : List Equation) → map (inst_all s) xs ≡ map (inst_all s) ys → Solves s es → Solves s (equations_of n xs ys ++ es)
+args-forth : (s : ℕ → Term) (n : ℕ) (xs ys : List Term) (es : List Equation) → map (inst_all s) xs ≡ map (inst_all s) ys → IsUnifier s es → IsUnifier s (equations_of n xs ys ++ es)
 args-forth s n [] ys es e h = h
 args-forth s n (x ∷ xs) [] es e h = h
 args-forth s n (x ∷ xs) (y ∷ ys) es e h =
@@ -134,8 +134,8 @@ module _ (m : ℕ) (e : Equation) (es : List Equation) (p : Problem) (hl : Side 
 
   -- a binding to a fresh variable over kept positions, where every solution uses only these
   fresh-keeps : (v n : ℕ) (ks : List ℕ) → v < q → nat_lt v m ≡ false → AllBelow n ks → (ds : List Equation) → Sides q ds
-      → ((u : ℕ → Term) → IsChoice m u → Solves u (e ∷ es) → UsesOnly n ks (u v) × Solves u ds)
-      → ((s : ℕ → Term) → IsChoice m s → (w : Term) → IsBuilt w → IsNameless w → s v ≡ kept_value n ks w → Solves s ds → Solves s (e ∷ es))
+      → ((u : ℕ → Term) → IsChoice m u → IsUnifier u (e ∷ es) → UsesOnly n ks (u v) × IsUnifier u ds)
+      → ((s : ℕ → Term) → IsChoice m s → (w : Term) → IsBuilt w → IsNameless w → s v ≡ kept_value n ks w → IsUnifier s ds → IsUnifier s (e ∷ es))
       → Kept m q p.bindings (e ∷ es) (bind_fresh v (keeping n ks q) ds p)
   fresh-keeps v n ks l nv b ds side forced solved = record {
     grows = omega arith;
@@ -150,7 +150,7 @@ module _ (m : ℕ) (e : Equation) (es : List Equation) (p : Problem) (hl : Side 
       value : Value (suc q) (keeping n ks q)
       value = value-keeping (suc q) n ks q b (omega arith)
 
-      forth : (u : ℕ → Term) → IsChoice m u → Solves u (e ∷ es) → UsesOnly n ks (u v) × Solves u ds → (s : ℕ → Term) × IsChoice m s × Agree q u s × Solves s (map (inst_equation v (keeping n ks q)) ds) × Forced s (record { variable = v; value = keeping n ks q } ∷ [])
+      forth : (u : ℕ → Term) → IsChoice m u → IsUnifier u (e ∷ es) → UsesOnly n ks (u v) × IsUnifier u ds → (s : ℕ → Term) × IsChoice m s × Agree q u s × IsUnifier s (map (inst_equation v (keeping n ks q)) ds) × Forced s (record { variable = v; value = keeping n ks q } ∷ [])
       forth u g h k =
           let w : Term = over n ks (u v) in
           let s : ℕ → Term = extended u q w in
@@ -209,20 +209,20 @@ module _ (m : ℕ) (e : Equation) (es : List Equation) (p : Problem) (hl : Side 
   both_made v w ns ms = record { variable = w; value = second_value ns ms } ∷ record { variable = v; value = first_value ns ms } ∷ []
 
   two-back : (v w : ℕ) (ns ms : List ℕ) → w < q → nat_lt v m ≡ false → nat_lt w m ≡ false → nat_eq v w ≡ false → head_of e.left ≡ Some (Var v) → head_of e.right ≡ Some (Var w) → args_of e.left ≡ names ns → args_of e.right ≡ names ms
-      → (s : ℕ → Term) → IsChoice m s → Solves s (map (inst_equation w (second_value ns ms)) (map (inst_equation v (first_value ns ms)) es)) → IsChoice m (through (both_made v w ns ms) s) × Solves (through (both_made v w ns ms) s) (e ∷ es)
+      → (s : ℕ → Term) → IsChoice m s → IsUnifier s (map (inst_equation w (second_value ns ms)) (map (inst_equation v (first_value ns ms)) es)) → IsChoice m (through (both_made v w ns ms) s) × IsUnifier (through (both_made v w ns ms) s) (e ∷ es)
   two-back v w ns ms lw nv nw apart hd hc ad ac s g h =
       let s1 : ℕ → Term = follow (record { variable = w; value = second_value ns ms }) s in
       let g1 : IsChoice m s1 = follow-choice m s g w nw (second_value ns ms) (second-good ns ms).nameless (second-good ns ms).closed in
-      let h1 : Solves s1 (map (inst_equation v (first_value ns ms)) es) = follow-solves s g.substitution w (second_value ns ms) (map (inst_equation v (first_value ns ms)) es) h in
+      let h1 : IsUnifier s1 (map (inst_equation v (first_value ns ms)) es) = follow-solves s g.substitution w (second_value ns ms) (map (inst_equation v (first_value ns ms)) es) h in
       let s2 : ℕ → Term = follow (record { variable = v; value = first_value ns ms }) s1 in
       let g2 : IsChoice m s2 = follow-choice m s1 g1 v nv (first_value ns ms) (first-good ns ms).nameless (first-good ns ms).closed in
-      let h2 : Solves s2 es = follow-solves s1 g1.substitution v (first_value ns ms) es h1 in
+      let h2 : IsUnifier s2 es = follow-solves s1 g1.substitution v (first_value ns ms) es h1 in
       let at_v : s2 v ≡ kept_value (length ns) (shared 0 (marks ns) (marks ms)) (s1 p.next_var) = follow-at s1 v (first_value ns ms) ∙ inst-first s1 g1 ns ms in
       let at_w : s2 w ≡ kept_value (length ms) (positions_of 0 (marks ns) (marks ms)) (s1 p.next_var) = follow-off s1 v w (first_value ns ms) apart ∙ follow-at s w (second_value ns ms) ∙ inst-second s g ns ms ∙ ap (kept_value (length ms) (positions_of 0 (marks ns) (marks ms))) (sym (follow-off s w p.next_var (second_value ns ms) (differs w lw))) in
       (g2, (inst-names s2 e.left v ns hd ad ∙ ap (λ t. apply_all t (names ns)) at_v ∙ shared-solved ns ms (s1 p.next_var) (g1.substitution.built p.next_var) (g1.substitution.nameless p.next_var) ∙ ap (λ t. apply_all t (names ms)) (sym at_w) ∙ sym (inst-names s2 e.right w ms hc ac), h2))
 
   two-forth : (v w : ℕ) (ns ms : List ℕ) → v < q → w < q → head_of e.left ≡ Some (Var v) → head_of e.right ≡ Some (Var w) → args_of e.left ≡ names ns → args_of e.right ≡ names ms → Distinct ms
-      → (u : ℕ → Term) → IsChoice m u → Solves u (e ∷ es) → (s : ℕ → Term) × IsChoice m s × Agree q u s × Solves s (map (inst_equation w (second_value ns ms)) (map (inst_equation v (first_value ns ms)) es)) × Forced s (both_made v w ns ms)
+      → (u : ℕ → Term) → IsChoice m u → IsUnifier u (e ∷ es) → (s : ℕ → Term) × IsChoice m s × Agree q u s × IsUnifier s (map (inst_equation w (second_value ns ms)) (map (inst_equation v (first_value ns ms)) es)) × Forced s (both_made v w ns ms)
   two-forth v w ns ms lv lw hd hc ad ac dis u g h =
       let meet : apply_all (u v) (names ns) ≡ apply_all (u w) (names ms) = sym (inst-names u e.left v ns hd ad) ∙ h.0 ∙ inst-names u e.right w ms hc ac in
       let k : Term = over (length ns) (shared 0 (marks ns) (marks ms)) (u v) in
@@ -248,7 +248,7 @@ module _ (m : ℕ) (e : Equation) (es : List Equation) (p : Problem) (hl : Side 
   -- a variable against another term
   value-back : (v : ℕ) (ns : List ℕ) (t : Term) → nat_lt v m ≡ false → Side q e.names t → Value q (close_all ns t) → occurs v t ≡ false
       → ((u : ℕ → Term) → apply_all (u v) (names ns) ≡ inst_all u t → inst_all u e.left ≡ inst_all u e.right)
-      → (s : ℕ → Term) → IsChoice m s → Solves s (map (inst_equation v (close_all ns t)) es) → IsChoice m (through (record { variable = v; value = close_all ns t } ∷ []) s) × Solves (through (record { variable = v; value = close_all ns t } ∷ []) s) (e ∷ es)
+      → (s : ℕ → Term) → IsChoice m s → IsUnifier s (map (inst_equation v (close_all ns t)) es) → IsChoice m (through (record { variable = v; value = close_all ns t } ∷ []) s) × IsUnifier (through (record { variable = v; value = close_all ns t } ∷ []) s) (e ∷ es)
   value-back v ns t nv st val occ from s g h =
       let s1 : ℕ → Term = follow (record { variable = v; value = close_all ns t }) s in
       let g1 : IsChoice m s1 = follow-choice m s g v nv (close_all ns t) val.nameless val.closed in
@@ -257,7 +257,7 @@ module _ (m : ℕ) (e : Equation) (es : List Equation) (p : Problem) (hl : Side 
       (g1, (from s1 (ap (λ z. apply_all z (names ns)) at_v ∙ applied-closed ns (inst_all s t) (built-fill (valued s) (valued_built s g.substitution) t) ∙ sym away), follow-solves s g.substitution v (close_all ns t) es h))
 
   value-forth : (v : ℕ) (ns : List ℕ) (t : Term) → Distinct ns → ((u : ℕ → Term) → inst_all u e.left ≡ inst_all u e.right → apply_all (u v) (names ns) ≡ inst_all u t)
-      → (u : ℕ → Term) → IsChoice m u → Solves u (e ∷ es) → (s : ℕ → Term) × IsChoice m s × Agree q u s × Solves s (map (inst_equation v (close_all ns t)) es) × Forced s (record { variable = v; value = close_all ns t } ∷ [])
+      → (u : ℕ → Term) → IsChoice m u → IsUnifier u (e ∷ es) → (s : ℕ → Term) × IsChoice m s × Agree q u s × IsUnifier s (map (inst_equation v (close_all ns t)) es) × Forced s (record { variable = v; value = close_all ns t } ∷ [])
   value-forth v ns t dis to u g h =
       let bound : u v ≡ inst_all u (close_all ns t) = sym (read-off ns dis (u v) (g.substitution.built v) (λ x m. g.substitution.nameless v x)) ∙ ap (close_all ns) (to u h.0) ∙ sym (inst-close_all u g.substitution ns t) in
       (u, g, λ x l. refl, binding-keeps u g.substitution v (close_all ns t) bound es h.1, (bound, tt))

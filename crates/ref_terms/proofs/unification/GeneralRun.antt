@@ -3,23 +3,24 @@ use Rattle.std.proofs.Common.{◌≡◌, ℕ, zero, suc, ◌≤◌, refl, sym, a
 use Rattle.ref_terms.specs.terms.Term.{Term}
 use Rattle.ref_terms.specs.unification.Problem.{Equation, Binding, Problem, Solved, Clashed, Faulted, Step, Goes, Ends}
 use Rattle.ref_terms.specs.unification.Rules.{step}
-use Rattle.ref_terms.specs.unification.Run.{after, run}
-use Rattle.ref_terms.specs.unification.Unifier.{Solves}
-use Rattle.ref_terms.specs.unification.MostGeneral.{IsChoice, through, BindingsSolve, BindingsCover, MostGeneral}
+use Rattle.ref_terms.specs.unification.Run.{Unifies, after, run}
+use Rattle.ref_terms.specs.unification.Unifier.{IsUnifier, IsChoice}
+use Rattle.ref_terms.specs.unification.MostGeneral.{through, AreUnifier, CoverUnifiers, MostGeneral}
 use Rattle.ref_terms.proofs.unification.SideLemmas.{Sides, sides-from, Agree, Forced, forced-agree, forced-through, forced-append, through-append}
 use Rattle.ref_terms.proofs.unification.GeneralRules.{Kept, StepKeeps, step-keeps}
+use Rattle.ref_terms.proofs.unification.Steps.{unify-reached}
 
 pub record Outcome (m q : ℕ) (old : List Binding) (es : List Equation) (r : Problem) : Type 0 where
   pub made : List Binding
   pub bindings : r.bindings ≡ made ++ old
-  pub back : (s : ℕ → Term) → IsChoice m s → IsChoice m (through made s) × Solves (through made s) es
-  pub forth : (u : ℕ → Term) → IsChoice m u → Solves u es → (s : ℕ → Term) × IsChoice m s × Agree q u s × Forced s made
+  pub back : (s : ℕ → Term) → IsChoice m s → IsChoice m (through made s) × IsUnifier (through made s) es
+  pub forth : (u : ℕ → Term) → IsChoice m u → IsUnifier u es → (s : ℕ → Term) × IsChoice m s × Agree q u s × Forced s made
 
 one_more : (m q : ℕ) (old : List Binding) (es : List Equation) (p r : Problem) → Kept m q old es p → Outcome m p.next_var p.bindings p.equations r → Outcome m q old es r
 one_more m q old es p r k o = record {
   made = o.made ++ k.made;
   bindings = o.bindings ∙ ap (λ (bs : List Binding). o.made ++ bs) k.bindings ∙ sym (append_assoc o.made k.made old);
-  back = λ s g. let a = o.back s g in subst (λ (z : ℕ → Term). IsChoice m z × Solves z es) (sym (through-append o.made k.made s)) (k.back (through o.made s) a.0 a.1);
+  back = λ s g. let a = o.back s g in subst (λ (z : ℕ → Term). IsChoice m z × IsUnifier z es) (sym (through-append o.made k.made s)) (k.back (through o.made s) a.0 a.1);
   forth = λ u g h. let a = k.forth u g h in let b = o.forth a.0 a.1 a.3 in
       (b.0, b.1, λ v l. a.2 v l ∙ b.2 v (let z : q ≤ p.next_var = k.grows in omega arith), forced-append b.0 o.made k.made b.3 (forced-agree p.next_var a.0 b.0 b.2 k.made k.values a.4));
 }
@@ -42,8 +43,9 @@ append_none [] = refl
 append_none (b ∷ bs) = ap (λ (ds : List Binding). b ∷ ds) (append_none bs)
 
 pub most-general : MostGeneral
-most-general m p q above proper none u =
+most-general m p q above proper none e =
+    let u : Unifies m p (Solved q) = subst (Unifies m p) e (unify-reached m p) in
     let o = solved_run m u.steps p q above (sides-from p.next_var p.equations proper) u.ends in
     let same : o.made ≡ q.bindings = sym (o.bindings ∙ ap (λ (bs : List Binding). o.made ++ bs) none ∙ append_none o.made) in
-    subst (λ (bs : List Binding). BindingsSolve m p bs × BindingsCover m p bs) same
+    subst (λ (bs : List Binding). AreUnifier m p.equations bs × CoverUnifiers m p.next_var p.equations bs) same
     (o.back, λ u g h. let a = o.forth u g h in (a.0, a.1, λ v l. a.2 v l ∙ ap (λ (z : ℕ → Term). z v) (sym (forced-through a.0 o.made a.3))))

@@ -15,9 +15,8 @@ use Rattle.ref_terms.specs.unification.Bind.{bind_fresh}
 use Rattle.ref_terms.specs.unification.Positions.{agreeing}
 use Rattle.ref_terms.specs.unification.Rules.{same_variable, two_variables, by_verdict, bind_to, flex_flex, headed_by_name, head_eq, equations_of, rule, step_at, step}
 use Rattle.ref_terms.specs.terms.Occurs.{is_name, has_name}
-use Rattle.ref_terms.specs.unification.Unifier.{Solves}
-use Rattle.ref_terms.specs.unification.MostGeneral.{IsChoice}
-use Rattle.ref_terms.specs.unification.RealClash.{HasNoSolution, FirstHeadsBound, RealClash, KeepsSolutions}
+use Rattle.ref_terms.specs.unification.Unifier.{IsUnifier, IsChoice, HasNoUnifier}
+use Rattle.ref_terms.specs.unification.RealClash.{FirstHasNoIndexHead, RealClash}
 use Rattle.ref_terms.proofs.unification.CountLemmas.{tally, count, NoBound, lams, core}
 use Rattle.ref_terms.proofs.unification.HeadLemmas.{or_left, or_right, is_rigid, RigidStay, rigid-head, rigid-length, flex-count, flex-balance, Outside, outside-all, outside-any, pattern-unmet}
 use Rattle.ref_terms.proofs.unification.ClashLemmas.{Quiet, no_pattern-quiet, HasForeign, no_bound-name, Strong, IsInstance, offence-strong}
@@ -257,30 +256,36 @@ module _ (m : ℕ) (u : ℕ → Term) (good : IsChoice m u) where
   rule-real (Rigid h xs) Abstraction e v w i j es p = tt
   rule-real (Flex x xs) Abstraction e v w i j es p = tt
 
-  step_at-real : (es : List Equation) (p : Problem) → FirstNamed es → Real (Solves u es) (step_at m es p)
+  step_at-real : (es : List Equation) (p : Problem) → FirstNamed es → Real (IsUnifier u es) (step_at m es p)
   step_at-real [] p n = tt
-  step_at-real (e ∷ es) p n = real-more (Solves u (e ∷ es)) (Same e.left e.right) (λ s. s.0) (step_at m (e ∷ es) p) (rule-real (shape m e.left) (shape m e.right) e (shaped m e.left) (shaped m e.right) n.0 n.1 es p)
+  step_at-real (e ∷ es) p n = real-more (IsUnifier u (e ∷ es)) (Same e.left e.right) (λ s. s.0) (step_at m (e ∷ es) p) (rule-real (shape m e.left) (shape m e.right) e (shaped m e.left) (shaped m e.right) n.0 n.1 es p)
 
 real-at : (E : Type 0) (s : Step) → s ≡ Ends (Clashed false) → Real E s → E → ⊥
 real-at E s e w = subst (Real E) e w
 
-no-index : (es : List Equation) → FirstHeadsBound es → FirstNamed es
+no-index : (es : List Equation) → FirstHasNoIndexHead es → FirstNamed es
 no-index [] w = tt
 no-index (e ∷ es) w = (λ i d. absurd (w.0 i d), λ i d. absurd (w.1 i d))
 
 pub real-clash : RealClash
 unfolding step
-real-clash m p w e u good s = real-at (Solves u p.equations) (step_at m p.equations p) e (step_at-real m u good p.equations p (no-index p.equations w)) s
+real-clash m p w e u good s = real-at (IsUnifier u p.equations) (step_at m p.equations p) e (step_at-real m u good p.equations p (no-index p.equations w)) s
+
+-- what a step keeps: proper problems stay proper, and what solves one before it can be made to solve the one after it
+pub record KeepsSolutions (m : ℕ) (IsProper : Problem → Type 0) : Type 0 where
+  pub bound : (p : Problem) → IsProper p → FirstHasNoIndexHead p.equations
+  pub proper : (p q : Problem) → IsProper p → step m p ≡ Goes q → IsProper q
+  pub solutions : (p q : Problem) → IsProper p → step m p ≡ Goes q → (u : ℕ → Term) → IsChoice m u → IsUnifier u p.equations → (w : ℕ → Term) × IsChoice m w × IsUnifier w q.equations
 
 -- and of a whole run, where the steps keep the solutions
 module _ (m : ℕ) (IsProper : Problem → Type 0) (keeps : KeepsSolutions m IsProper) where
-  run-real : (n : ℕ) (p : Problem) → IsProper p → run m n p ≡ Some (Clashed false) → HasNoSolution m p.equations
+  run-real : (n : ℕ) (p : Problem) → IsProper p → run m n p ≡ Some (Clashed false) → HasNoUnifier m p.equations
   run-real zero p w e = absurd (let z : None ≡ Some (Clashed false) = e in cc)
   run-real (suc n) p w e = go (step m p) refl e (λ q v d. run-real n q v d)
     where
-      go : (s : Step) → step m p ≡ s → after (run m n) s ≡ Some (Clashed false) → ((q : Problem) → IsProper q → run m n q ≡ Some (Clashed false) → HasNoSolution m q.equations) → HasNoSolution m p.equations
+      go : (s : Step) → step m p ≡ s → after (run m n) s ≡ Some (Clashed false) → ((q : Problem) → IsProper q → run m n q ≡ Some (Clashed false) → HasNoUnifier m q.equations) → HasNoUnifier m p.equations
       go (Ends a) d e i = let same : Ends a ≡ Ends (Clashed false) = let z : Some a ≡ Some (Clashed false) = e in cc in real-clash m p (keeps.bound p w) (d ∙ same)
       go (Goes q) d e i = λ u good s. let k = keeps.solutions p q w d u good s in i q (keeps.proper p q w d) e k.0 k.1 k.2
 
-  pub real-where-kept : (p : Problem) → IsProper p → Unifies m p (Clashed false) → HasNoSolution m p.equations
+  pub real-where-kept : (p : Problem) → IsProper p → Unifies m p (Clashed false) → HasNoUnifier m p.equations
   real-where-kept p w a = run-real a.steps p w a.ends

@@ -1,17 +1,16 @@
 -- A run that ends in a clash that is no knot: the problem has no solution.
-use Rattle.std.proofs.Common.{◌≡◌, ℕ, suc, false, ◌≤◌, List, [], ◌∷◌, refl, sym, ap, ◌∙◌, subst, arith, Option, Some, None}
+use Rattle.std.proofs.Common.{◌≡◌, ℕ, suc, ◌≤◌, List, [], ◌∷◌, refl, sym, ap, ◌∙◌, subst, arith, Option, Some, None}
 use Rattle.ref_terms.specs.terms.Term.{Term, Lam, At, App, Head, Bound}
 use Rattle.ref_terms.specs.terms.Index.{ren, ren_head, next}
 use Rattle.ref_terms.specs.unification.Spine.{head_of}
-use Rattle.ref_terms.specs.unification.Problem.{Equation, Problem, Clashed, Goes}
+use Rattle.ref_terms.specs.unification.Problem.{Equation, Problem, Goes}
 use Rattle.ref_terms.specs.unification.Rules.{step}
 use Rattle.ref_terms.specs.unification.Run.{Unifies}
-use Rattle.ref_terms.specs.unification.Unifier.{IsSubstitution, Solves}
-use Rattle.ref_terms.specs.unification.MostGeneral.{IsChoice, AreProper}
-use Rattle.ref_terms.specs.unification.RealClash.{NoIndexHead, FirstHeadsBound, KeepsSolutions, RealClashes}
+use Rattle.ref_terms.specs.unification.RealClash.{HasNoIndexHead, FirstHasNoIndexHead, RealClashes}
 use Rattle.ref_terms.proofs.unification.SideLemmas.{IsClosed, Sides, sides-from}
 use Rattle.ref_terms.proofs.unification.GeneralRules.{Kept, StepKeeps, step-keeps}
-use Rattle.ref_terms.proofs.unification.RealClash.{real-where-kept}
+use Rattle.ref_terms.proofs.unification.RealClash.{KeepsSolutions, real-where-kept}
+use Rattle.ref_terms.proofs.unification.Steps.{unify-reached}
 
 abbrev pub head_moved : Option Head → Option Head
 head_moved None = None
@@ -22,7 +21,7 @@ head-ren (Lam b) = refl
 head-ren (At h) = refl
 head-ren (App f a) = head-ren f
 
-closed-head : (t : Term) → IsClosed t → NoIndexHead t
+closed-head : (t : Term) → IsClosed t → HasNoIndexHead t
 closed-head t c i e =
     let a : head_of (ren next t) ≡ head_of t = ap head_of (c next) in
     let b : head_moved (head_of t) ≡ Some (Bound (suc i)) = ap head_moved e in
@@ -33,7 +32,7 @@ closed-head t c i e =
 abbrev pub HasSides : ℕ → Problem → Type 0
 HasSides m p = (m ≤ p.next_var) × Sides p.next_var p.equations
 
-bound : (q : ℕ) (es : List Equation) → Sides q es → FirstHeadsBound es
+bound : (q : ℕ) (es : List Equation) → Sides q es → FirstHasNoIndexHead es
 bound q [] w = tt
 bound q (e ∷ es) w = (closed-head e.left w.0.0.closed, closed-head e.right w.0.1.closed)
 
@@ -48,11 +47,4 @@ keeps-solutions m = record {
 }
 
 pub real-clashes : RealClashes
-real-clashes m p l w = real-where-kept m (HasSides m) (keeps-solutions m) p (l, sides-from p.next_var p.equations w)
-
--- where no variable is frozen, any substitution will do
-pub unfrozen : (u : ℕ → Term) → IsSubstitution u → IsChoice 0 u
-unfrozen u good = record { substitution = good; frozen = λ v l. absurd (omega arith) }
-
-pub real-unfrozen : (p : Problem) → AreProper p.next_var p.equations → Unifies 0 p (Clashed false) → (u : ℕ → Term) → IsSubstitution u → Solves u p.equations → ⊥
-real-unfrozen p w a u good = real-clashes 0 p (omega arith) w a u (unfrozen u good)
+real-clashes m p l w e = real-where-kept m (HasSides m) (keeps-solutions m) p (l, sides-from p.next_var p.equations w) (subst (Unifies m p) e (unify-reached m p))

@@ -17,8 +17,9 @@ use Rattle.ref_terms.specs.unification.Closing.{closing, close_all, names_below,
 use Rattle.ref_terms.specs.unification.Problem.{Equation, Binding}
 use Rattle.ref_terms.specs.unification.Bind.{inst_equation}
 use Rattle.ref_terms.specs.unification.Rules.{equations_of}
-use Rattle.ref_terms.specs.unification.Unifier.{IsSubstitution, Solves}
-use Rattle.ref_terms.specs.unification.MostGeneral.{follow, through, IsSide, AreProper, IsChoice}
+use Rattle.ref_terms.specs.unification.Unifier.{IsSubstitution, IsUnifier, IsChoice}
+use Rattle.ref_terms.specs.unification.MostGeneral.{follow, through}
+use Rattle.ref_terms.specs.unification.Proper.{IsSide, AreProper}
 use Rattle.ref_terms.specs.lemmas.NameLemmas.{nameless-fill, nameless-apply, inst-nameless, valued_built, valued_keeps, or_left, or_right, nat_eq_self}
 use Rattle.ref_terms.specs.ending.Fits.{FitsHead, Fits, before}
 use Rattle.ref_terms.specs.ending.Measure.{Downward, fits-any, fits-apply, fits-inst}
@@ -224,7 +225,7 @@ inst-agree-on P u s k t j w = fill-agree P (valued u) (valued s) heads t j w
 pub inst-agree : (q : ℕ) (u s : ℕ → Term) → Agree q u s → (t : Term) → Fits (Known q) 0 t → inst_all u t ≡ inst_all s t
 inst-agree q u s k t w = inst-agree-on (Known q) u s (λ v j h. k v h) t 0 w
 
-pub solves-agree : (q : ℕ) (u s : ℕ → Term) → Agree q u s → (es : List Equation) → Sides q es → Solves u es → Solves s es
+pub solves-agree : (q : ℕ) (u s : ℕ → Term) → Agree q u s → (es : List Equation) → Sides q es → IsUnifier u es → IsUnifier s es
 solves-agree q u s k [] w h = tt
 solves-agree q u s k (e ∷ es) w h = (sym (inst-agree q u s k e.left w.0.0.known) ∙ h.0 ∙ inst-agree q u s k e.right w.0.1.known, solves-agree q u s k es w.1 h.1)
 
@@ -264,7 +265,7 @@ follow-inst s g v c t = ap (λ r. fill r t) (fun_ext heads) ∙ sym (fill-fill (
     heads (Con k) = refl
     heads _ = refl
 
-pub follow-solves : (s : ℕ → Term) → IsSubstitution s → (v : ℕ) (c : Term) (es : List Equation) → Solves s (map (inst_equation v c) es) → Solves (follow (record { variable = v; value = c }) s) es
+pub follow-solves : (s : ℕ → Term) → IsSubstitution s → (v : ℕ) (c : Term) (es : List Equation) → IsUnifier s (map (inst_equation v c) es) → IsUnifier (follow (record { variable = v; value = c }) s) es
 follow-solves s g v c [] h = tt
 follow-solves s g v c (e ∷ es) h = (follow-inst s g v c e.left ∙ h.0 ∙ sym (follow-inst s g v c e.right), follow-solves s g v c es h.1)
 
