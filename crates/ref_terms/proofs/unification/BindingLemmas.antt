@@ -41,6 +41,7 @@ module _ (u : ℕ → Term) (good : IsSubstitution u) where
   inst-close_all [] t = refl
   inst-close_all (n ∷ ns) t = inst-close n (close_all ns t) ∙ ap (close n) (inst-close_all ns t)
 
+  -- names as arguments
   abbrev pub names_as_terms : List ℕ → List Term
   names_as_terms ns = map (λ n. At (Name n)) ns
 

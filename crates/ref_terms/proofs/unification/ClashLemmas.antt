@@ -39,10 +39,10 @@ redex-along m x ns l of_rigid (App f a) e = or-redex (along m x ns l of_rigid f)
 redex-along m x ns l other_spine (App f a) e = or-redex (along m x ns l other_spine f) (offence m x ns true a) (redex-along m x ns l other_spine f e)
 redex-along m x ns l (pattern_spine v n) (App f a) e = or-redex (along m x ns l (pattern_spine v n) f) (cond (is_foreign ns a) (cond l scope (dropped v (length (args_of f)) n)) fine) (redex-along m x ns l (pattern_spine v n) f e)
 
-neat-quiet : (l b : Bool) (v i n : ℕ) → Quiet (cond b (cond l scope (dropped v i n)) fine)
-neat-quiet true true v i n = tt
-neat-quiet false true v i n = tt
-neat-quiet l false v i n = tt
+pattern-quiet : (l b : Bool) (v i n : ℕ) → Quiet (cond b (cond l scope (dropped v i n)) fine)
+pattern-quiet true true v i n = tt
+pattern-quiet false true v i n = tt
+pattern-quiet l false v i n = tt
 
 module _ (m x : ℕ) (ns : List ℕ) where
   -- a loose place is no clash
@@ -60,13 +60,14 @@ module _ (m x : ℕ) (ns : List ℕ) where
   head-quiet (Con c) = tt
   head-quiet _ = tt
 
+  -- both looks at a term
   abbrev QuietOf : Term → Type 0
   QuietOf t = Quiet (offence m x ns true t) × ((k : Arguments) → Quiet (along m x ns true k t))
 
   quiet-app : (k : Arguments) (f a : Term) → Quiet (along m x ns true k f) → Quiet (offence m x ns true a) → Quiet (along m x ns true k (App f a))
   quiet-app of_rigid f a i j = quiet-later (along m x ns true of_rigid f) (offence m x ns true a) i j
   quiet-app other_spine f a i j = quiet-later (along m x ns true other_spine f) (offence m x ns true a) i j
-  quiet-app (pattern_spine v n) f a i j = quiet-later (along m x ns true (pattern_spine v n) f) (cond (is_foreign ns a) (cond true scope (dropped v (length (args_of f)) n)) fine) i (neat-quiet true (is_foreign ns a) v (length (args_of f)) n)
+  quiet-app (pattern_spine v n) f a i j = quiet-later (along m x ns true (pattern_spine v n) f) (cond (is_foreign ns a) (cond true scope (dropped v (length (args_of f)) n)) fine) i (pattern-quiet true (is_foreign ns a) v (length (args_of f)) n)
 
   pub loose-quiet : (t : Term) → QuietOf t
   loose-quiet (Lam b) = ((loose-quiet b).0, λ k. tt)
@@ -124,6 +125,7 @@ module _ (m x : ℕ) (ns : List ℕ) (assignable : nat_lt x m ≡ false) (U : Te
   Strong h scope t = Unit {0}
   Strong h (dropped y i n) t = Unit {0}
 
+  -- an instance by U for the variable x, below some abstractions
   pub record IsInstance (r : Head → Term) : Type 0 where
     pub stays : RigidStay m r
     pub carries : (p : Head → Bool) → NoBound p → count p (r (Var x)) ≡ count p U
@@ -225,14 +227,15 @@ module _ (m x : ℕ) (ns : List ℕ) (assignable : nat_lt x m ≡ false) (U : Te
       let w = cond (is_foreign ns a) (cond false scope (dropped v (length (args_of f)) (length xs))) fine in
       says-later (along m x ns false k f) w (fill r (App f a))
       (says-more (along m x ns false k f) (fill r f) (fill r (App f a)) (λ p n. count-apply p n (fill r f) (fill r a)) (flex-says r i (Some ks) v xs f))
-      (quiet-says w (fill r (App f a)) (neat-quiet false (is_foreign ns a) v (length (args_of f)) (length xs)))
+      (quiet-says w (fill r (App f a)) (pattern-quiet false (is_foreign ns a) v (length (args_of f)) (length xs)))
 
+  -- both looks at a term
   abbrev SaysOf : Term → Type 0
   SaysOf t = ((r : Head → Term) → IsInstance r → Says (offence m x ns false t) (fill r t))
       × ((r : Head → Term) → IsInstance r → (h : Head) → is_rigid m h ≡ true → head_of t ≡ Some h → Strong h (along m x ns false of_rigid t) (fill r t))
 
-  firm-app : (f a : Term) → SaysOf f → SaysOf a → (r : Head → Term) → IsInstance r → (h : Head) → is_rigid m h ≡ true → head_of f ≡ Some h → Strong h (along m x ns false of_rigid (App f a)) (fill r (App f a))
-  firm-app f a j k r i h g e =
+  rigid-app : (f a : Term) → SaysOf f → SaysOf a → (r : Head → Term) → IsInstance r → (h : Head) → is_rigid m h ≡ true → head_of f ≡ Some h → Strong h (along m x ns false of_rigid (App f a)) (fill r (App f a))
+  rigid-app f a j k r i h g e =
       let d = rigid-head m r i.stays f h g e in
       subst (λ w. Strong h (along m x ns false of_rigid (App f a)) w) (sym (apply_headed (fill r f) (fill r a) h d))
       (strong-app h (along m x ns false of_rigid f) (offence m x ns false a) (fill r f) (fill r a) (λ p. head-counted p (fill r f) h d) (j.1 r i h g e) (k.0 r i))
@@ -242,13 +245,13 @@ module _ (m x : ℕ) (ns : List ℕ) (assignable : nat_lt x m ≡ false) (U : Te
   says-app f a j k r i (Some (Var v)) e = go (nat_lt v m) refl
     where
       go : (b : Bool) → nat_lt v m ≡ b → Says (along m x ns false (cond b of_rigid (of_flexible v (args_of f ++ a ∷ []) (pattern_of (args_of f ++ a ∷ [])))) (App f a)) (fill r (App f a))
-      go true d = weak (Var v) (along m x ns false of_rigid (App f a)) (fill r (App f a)) (firm-app f a j k r i (Var v) d e)
+      go true d = weak (Var v) (along m x ns false of_rigid (App f a)) (fill r (App f a)) (rigid-app f a j k r i (Var v) d e)
       go false d = flex-says r i (pattern_of (args_of f ++ a ∷ [])) v (args_of f ++ a ∷ []) (App f a)
-  says-app f a j k r i (Some (Con c)) e = weak (Con c) (along m x ns false of_rigid (App f a)) (fill r (App f a)) (firm-app f a j k r i (Con c) refl e)
-  says-app f a j k r i (Some (Int c)) e = weak (Int c) (along m x ns false of_rigid (App f a)) (fill r (App f a)) (firm-app f a j k r i (Int c) refl e)
-  says-app f a j k r i (Some (Str c)) e = weak (Str c) (along m x ns false of_rigid (App f a)) (fill r (App f a)) (firm-app f a j k r i (Str c) refl e)
-  says-app f a j k r i (Some (Name c)) e = weak (Name c) (along m x ns false of_rigid (App f a)) (fill r (App f a)) (firm-app f a j k r i (Name c) refl e)
-  says-app f a j k r i (Some (Bound c)) e = weak (Bound c) (along m x ns false of_rigid (App f a)) (fill r (App f a)) (firm-app f a j k r i (Bound c) refl e)
+  says-app f a j k r i (Some (Con c)) e = weak (Con c) (along m x ns false of_rigid (App f a)) (fill r (App f a)) (rigid-app f a j k r i (Con c) refl e)
+  says-app f a j k r i (Some (Int c)) e = weak (Int c) (along m x ns false of_rigid (App f a)) (fill r (App f a)) (rigid-app f a j k r i (Int c) refl e)
+  says-app f a j k r i (Some (Str c)) e = weak (Str c) (along m x ns false of_rigid (App f a)) (fill r (App f a)) (rigid-app f a j k r i (Str c) refl e)
+  says-app f a j k r i (Some (Name c)) e = weak (Name c) (along m x ns false of_rigid (App f a)) (fill r (App f a)) (rigid-app f a j k r i (Name c) refl e)
+  says-app f a j k r i (Some (Bound c)) e = weak (Bound c) (along m x ns false of_rigid (App f a)) (fill r (App f a)) (rigid-app f a j k r i (Bound c) refl e)
 
   says : (t : Term) → SaysOf t
   says (Lam b) = (
@@ -261,16 +264,16 @@ module _ (m x : ℕ) (ns : List ℕ) (assignable : nat_lt x m ≡ false) (U : Te
       strong-at r i h g e = let same : h ≡ k = cc in subst (λ q. Strong h (head_verdict x ns false q) (r q)) same (head-strong r i h g)
   says (App f a) = (
     λ r i. says-app f a (says f) (says a) r i (head_of f) refl,
-    λ r i h g e. firm-app f a (says f) (says a) r i h g e,
+    λ r i h g e. rigid-app f a (says f) (says a) r i h g e,
   )
 
   -- a rigid term's offence, with its head
   pub offence-strong : (r : Head → Term) → IsInstance r → (t : Term) (h : Head) → is_rigid m h ≡ true → head_of t ≡ Some h → Strong h (offence m x ns false t) (fill r t)
   offence-strong r i (Lam b) h g e = absurd (let z : None ≡ Some h = e in cc)
   offence-strong r i (At k) h g e = (says (At k)).1 r i h g e
-  offence-strong r i (App f a) h g e = subst (λ k. Strong h (along m x ns false k (App f a)) (fill r (App f a))) (sym (ap (λ o. arguments m o (args_of f ++ a ∷ [])) e ∙ firm-spine h g)) ((says (App f a)).1 r i h g e)
+  offence-strong r i (App f a) h g e = subst (λ k. Strong h (along m x ns false k (App f a)) (fill r (App f a))) (sym (ap (λ o. arguments m o (args_of f ++ a ∷ [])) e ∙ rigid-spine h g)) ((says (App f a)).1 r i h g e)
     where
-      firm-spine : (h : Head) → is_rigid m h ≡ true → arguments m (Some h) (args_of f ++ a ∷ []) ≡ of_rigid
-      firm-spine (Var v) g = ap (λ b. cond b of_rigid (of_flexible v (args_of f ++ a ∷ []) (pattern_of (args_of f ++ a ∷ [])))) g
-      firm-spine (Con c) g = refl
-      firm-spine _ g = refl
+      rigid-spine : (h : Head) → is_rigid m h ≡ true → arguments m (Some h) (args_of f ++ a ∷ []) ≡ of_rigid
+      rigid-spine (Var v) g = ap (λ b. cond b of_rigid (of_flexible v (args_of f ++ a ∷ []) (pattern_of (args_of f ++ a ∷ [])))) g
+      rigid-spine (Con c) g = refl
+      rigid-spine _ g = refl

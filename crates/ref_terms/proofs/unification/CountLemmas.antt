@@ -8,15 +8,18 @@ use Rattle.ref_terms.specs.terms.Apply.{apply}
 use Rattle.ref_terms.specs.lemmas.EtaLemmas.{eta-some}
 use Rattle.ref_terms.specs.lemmas.ReadyFacts.{ready-name, ready-bound}
 
+-- one where the test passes
 abbrev pub tally : Bool → ℕ
 tally true = 1
 tally false = 0
 
+-- how many heads of a term pass the test
 abbrev pub count : (Head → Bool) → Term → ℕ
 count p (Lam b) = count p b
 count p (At h) = tally (p h)
 count p (App f a) = count p f + count p a
 
+-- no bound index passes
 abbrev pub NoBound : (Head → Bool) → Type 0
 NoBound p = (i : ℕ) → p (Bound i) ≡ false
 
@@ -107,16 +110,19 @@ lams (Lam b) = suc (lams b)
 lams (At h) = 0
 lams (App f a) = 0
 
+-- the number of arguments
 abbrev pub spine_length : Term → ℕ
 spine_length (Lam b) = 0
 spine_length (At h) = 0
 spine_length (App f a) = suc (spine_length f)
 
+-- the number of arguments below the abstractions in front
 abbrev pub core : Term → ℕ
 core (Lam b) = core b
 core (At h) = 0
 core (App f a) = suc (spine_length f)
 
+-- the terms for indices are plain
 abbrev AllPlain : (ℕ → Term) → Type 0
 AllPlain s = (i : ℕ) → IsPlain (s i)
 
@@ -136,6 +142,7 @@ plain-first : (a : Term) → IsPlain a → AllPlain (first a)
 plain-first a w zero = w
 plain-first a w (suc i) = tt
 
+-- neither abstractions in front nor arguments
 abbrev Flat : Term → Type 0
 Flat t = (lams t ≡ 0) × (spine_length t ≡ 0) × (core t ≡ 0)
 

@@ -25,32 +25,33 @@ use Rattle.ref_terms.specs.ending.Fits.{Fits, before}
 use Rattle.ref_terms.specs.ending.Measure.{Downward, fits-loose}
 use Rattle.ref_terms.specs.ending.OffenceLemmas.{KeepsAll, other-keeps}
 use Rattle.ref_terms.proofs.unification.ValueLemmas.{names, listed, body, unused, UsesOnly, body-applied}
-use Rattle.ref_terms.proofs.unification.KeptLemmas.{term_of, terms_of, marks-ready, but-uses}
+use Rattle.ref_terms.proofs.unification.KeptLemmas.{term_of, terms_of, spine-ready, but-uses}
 
--- pattern spines are lists of marks
-mark-term : (t : Term) (k : SpineName) → spine_name t ≡ Some k → t ≡ term_of k
-mark-term (At (Name n)) k e = let z : Some (of_name n) ≡ Some k = e in let d : of_name n ≡ k = cc in ap term_of d
-mark-term (At (Bound n)) k e = let z : Some (of_bound n) ≡ Some k = e in let d : of_bound n ≡ k = cc in ap term_of d
-mark-term (At (Con n)) k e = absurd (let z : None ≡ Some k = e in cc)
-mark-term (At (Int n)) k e = absurd (let z : None ≡ Some k = e in cc)
-mark-term (At (Str n)) k e = absurd (let z : None ≡ Some k = e in cc)
-mark-term (At (Var n)) k e = absurd (let z : None ≡ Some k = e in cc)
-mark-term (Lam b) k e = absurd (let z : None ≡ Some k = e in cc)
-mark-term (App f a) k e = absurd (let z : None ≡ Some k = e in cc)
+-- pattern spines are lists of names
+spine_name-term : (t : Term) (k : SpineName) → spine_name t ≡ Some k → t ≡ term_of k
+spine_name-term (At (Name n)) k e = let z : Some (of_name n) ≡ Some k = e in let d : of_name n ≡ k = cc in ap term_of d
+spine_name-term (At (Bound n)) k e = let z : Some (of_bound n) ≡ Some k = e in let d : of_bound n ≡ k = cc in ap term_of d
+spine_name-term (At (Con n)) k e = absurd (let z : None ≡ Some k = e in cc)
+spine_name-term (At (Int n)) k e = absurd (let z : None ≡ Some k = e in cc)
+spine_name-term (At (Str n)) k e = absurd (let z : None ≡ Some k = e in cc)
+spine_name-term (At (Var n)) k e = absurd (let z : None ≡ Some k = e in cc)
+spine_name-term (Lam b) k e = absurd (let z : None ≡ Some k = e in cc)
+spine_name-term (App f a) k e = absurd (let z : None ≡ Some k = e in cc)
 
-abbrev pub DistinctMarks : List SpineName → Type 0
-DistinctMarks [] = Unit {0}
-DistinctMarks (k ∷ ks) = (list_any (same_name k) ks ≡ false) × DistinctMarks ks
+-- names of a spine, each once
+abbrev pub DistinctNames : List SpineName → Type 0
+DistinctNames [] = Unit {0}
+DistinctNames (k ∷ ks) = (list_any (same_name k) ks ≡ false) × DistinctNames ks
 
-pub pattern-terms : (xs : List Term) (ks : List SpineName) → pattern_of xs ≡ Some ks → (xs ≡ terms_of ks) × DistinctMarks ks
-pattern-terms [] ks e = let z : Some [] ≡ Some ks = e in let d : [] ≡ ks = cc in subst (λ (q : List SpineName). ([] ≡ terms_of q) × DistinctMarks q) d (refl, tt)
+pub pattern-terms : (xs : List Term) (ks : List SpineName) → pattern_of xs ≡ Some ks → (xs ≡ terms_of ks) × DistinctNames ks
+pattern-terms [] ks e = let z : Some [] ≡ Some ks = e in let d : [] ≡ ks = cc in subst (λ (q : List SpineName). ([] ≡ terms_of q) × DistinctNames q) d (refl, tt)
 pattern-terms (t ∷ ts) ks e = go (spine_name t) refl (pattern_of ts) refl (λ q d. pattern-terms ts q d) e
   where
-    deep : (k : SpineName) → spine_name t ≡ Some k → (q : List SpineName) → (ts ≡ terms_of q) × DistinctMarks q → (b : Bool) → list_any (same_name k) q ≡ b → cond b None (Some (k ∷ q)) ≡ Some ks → (t ∷ ts ≡ terms_of ks) × DistinctMarks ks
+    deep : (k : SpineName) → spine_name t ≡ Some k → (q : List SpineName) → (ts ≡ terms_of q) × DistinctNames q → (b : Bool) → list_any (same_name k) q ≡ b → cond b None (Some (k ∷ q)) ≡ Some ks → (t ∷ ts ≡ terms_of ks) × DistinctNames ks
     deep k d q i true c e = absurd (let z : None ≡ Some ks = e in cc)
-    deep k d q i false c e = let z : Some (k ∷ q) ≡ Some ks = e in let s : k ∷ q ≡ ks = cc in subst (λ (q : List SpineName). (t ∷ ts ≡ terms_of q) × DistinctMarks q) s (ap₂ (λ (y : Term) (ys : List Term). y ∷ ys) (mark-term t k d) i.0, (c, i.1))
+    deep k d q i false c e = let z : Some (k ∷ q) ≡ Some ks = e in let s : k ∷ q ≡ ks = cc in subst (λ (q : List SpineName). (t ∷ ts ≡ terms_of q) × DistinctNames q) s (ap₂ (λ (y : Term) (ys : List Term). y ∷ ys) (spine_name-term t k d) i.0, (c, i.1))
 
-    go : (k : Option SpineName) → spine_name t ≡ k → (q : Option (List SpineName)) → pattern_of ts ≡ q → ((q : List SpineName) → pattern_of ts ≡ Some q → (ts ≡ terms_of q) × DistinctMarks q) → add_distinct k q ≡ Some ks → (t ∷ ts ≡ terms_of ks) × DistinctMarks ks
+    go : (k : Option SpineName) → spine_name t ≡ k → (q : Option (List SpineName)) → pattern_of ts ≡ q → ((q : List SpineName) → pattern_of ts ≡ Some q → (ts ≡ terms_of q) × DistinctNames q) → add_distinct k q ≡ Some ks → (t ∷ ts ≡ terms_of ks) × DistinctNames ks
     go (Some k) d (Some q) c i e = deep k d q (i q c) (list_any (same_name k) q) refl e
     go (Some k) d None c i e = absurd (let z : None ≡ Some ks = e in cc)
     go None d q c i e = absurd (let z : None ≡ Some ks = e in cc)
@@ -65,21 +66,22 @@ inst-spine u (Lam b) h e = absurd (let z : None ≡ Some h = e in cc)
 inst-spine u (At k) h e = let same : k ≡ h = let z : Some k ≡ Some h = e in cc in ap (valued u) same
 inst-spine u (App f a) h e = ap (λ z. apply z (inst_all u a)) (inst-spine u f h e) ∙ sym (applied-last (inst_all u) (args_of f) (valued u h) a)
 
-inst-mark : (u : ℕ → Term) (k : SpineName) → inst_all u (term_of k) ≡ term_of k
-inst-mark u (of_name n) = refl
-inst-mark u (of_bound n) = refl
+inst-spine_name : (u : ℕ → Term) (k : SpineName) → inst_all u (term_of k) ≡ term_of k
+inst-spine_name u (of_name n) = refl
+inst-spine_name u (of_bound n) = refl
 
-inst-marks : (u : ℕ → Term) (ks : List SpineName) → map (inst_all u) (terms_of ks) ≡ terms_of ks
-inst-marks u [] = refl
-inst-marks u (k ∷ ks) = ap₂ (λ (y : Term) (ys : List Term). y ∷ ys) (inst-mark u k) (inst-marks u ks)
+inst-names : (u : ℕ → Term) (ks : List SpineName) → map (inst_all u) (terms_of ks) ≡ terms_of ks
+inst-names u [] = refl
+inst-names u (k ∷ ks) = ap₂ (λ (y : Term) (ys : List Term). y ∷ ys) (inst-spine_name u k) (inst-names u ks)
 
 pub inst-pattern : (u : ℕ → Term) (t : Term) (v : ℕ) (ks : List SpineName) → head_of t ≡ Some (Var v) → args_of t ≡ terms_of ks → inst_all u t ≡ apply_all (u v) (terms_of ks)
-inst-pattern u t v ks e d = inst-spine u t (Var v) e ∙ ap (apply_all (u v)) (ap (map (inst_all u)) d ∙ inst-marks u ks)
+inst-pattern u t v ks e d = inst-spine u t (Var v) e ∙ ap (apply_all (u v)) (ap (map (inst_all u)) d ∙ inst-names u ks)
 
 any-mem : (n : ℕ) (ns : List ℕ) → list_any (nat_eq n) ns ≡ mem n ns
 any-mem n [] = refl
 any-mem n (m ∷ ms) = ap (λ r. nat_eq n m || r) (any-mem n ms)
 
+-- all names of a term are among these
 abbrev pub Scoped : List ℕ → Term → Type 0
 Scoped ns t = (a : ℕ) → mem a ns ≡ false → has_name a t ≡ false
 
@@ -131,19 +133,20 @@ tells-both F G H scope w a b k = tt
 tells-both F G H itself w a b k = tt
 tells-both F G H foreign w a b k = tt
 
-abbrev pub MarkList : List Term → Type 0
-MarkList [] = Unit {0}
-MarkList (x ∷ xs) = ((k : SpineName) × (x ≡ term_of k)) × MarkList xs
+-- arguments that are names
+abbrev pub AreSpineNames : List Term → Type 0
+AreSpineNames [] = Unit {0}
+AreSpineNames (x ∷ xs) = ((k : SpineName) × (x ≡ term_of k)) × AreSpineNames xs
 
-mark_list : (ks : List SpineName) → MarkList (terms_of ks)
-mark_list [] = tt
-mark_list (k ∷ ks) = ((k, refl), mark_list ks)
+spine_name_list : (ks : List SpineName) → AreSpineNames (terms_of ks)
+spine_name_list [] = tt
+spine_name_list (k ∷ ks) = ((k, refl), spine_name_list ks)
 
-list-front : (xs ys : List Term) → MarkList (xs ++ ys) → MarkList xs
+list-front : (xs ys : List Term) → AreSpineNames (xs ++ ys) → AreSpineNames xs
 list-front [] ys w = tt
 list-front (x ∷ xs) ys w = (w.0, list-front xs ys w.1)
 
-list-last : (xs : List Term) (a : Term) → MarkList (xs ++ a ∷ []) → (k : SpineName) × (a ≡ term_of k)
+list-last : (xs : List Term) (a : Term) → AreSpineNames (xs ++ a ∷ []) → (k : SpineName) × (a ≡ term_of k)
 list-last [] a w = w.0
 list-last (x ∷ xs) a w = list-last xs a w.1
 
@@ -164,10 +167,11 @@ module _ (m x : ℕ) (ns : List ℕ) where
   scoped-head l (Con c) = λ a m. refl
   scoped-head l _ = λ a m. refl
 
+  -- what is known of the arguments that are looked at
   abbrev pub Looks : Arguments → Term → Type 0
   Looks of_rigid t = Unit {0}
   Looks other_spine t = Unit {0}
-  Looks (pattern_spine v n) t = MarkList (args_of t)
+  Looks (pattern_spine v n) t = AreSpineNames (args_of t)
 
   looks-front : (k : Arguments) (f a : Term) → Looks k (App f a) → Looks k f
   looks-front of_rigid f a w = tt
@@ -179,7 +183,7 @@ module _ (m x : ℕ) (ns : List ℕ) where
     where
       deep : (q : Option (List SpineName)) → pattern_of (args_of f ++ a ∷ []) ≡ q → Looks (of_flexible v (args_of f ++ a ∷ []) q) (App f a)
       deep None e = tt
-      deep (Some ks) e = subst MarkList (sym (pattern-terms (args_of f ++ a ∷ []) ks e).0) (mark_list ks)
+      deep (Some ks) e = subst AreSpineNames (sym (pattern-terms (args_of f ++ a ∷ []) ks e).0) (spine_name_list ks)
 
       go : (b : Bool) → Looks (cond b of_rigid (of_flexible v (args_of f ++ a ∷ []) (pattern_of (args_of f ++ a ∷ [])))) (App f a)
       go true = tt
@@ -198,6 +202,7 @@ module _ (m x : ℕ) (ns : List ℕ) where
       go false true e = tt
       go l false e = let k = list-last (args_of f) a w in subst (Scoped ns) (sym k.1) (home-is ns k.0 (ap (is_foreign ns) (sym k.1) ∙ e))
 
+  -- both looks at a term
   abbrev ScopedOf : Term → Type 0
   ScopedOf t = ((l : Bool) → Tells (Scoped ns t) (offence m x ns l t)) × ((l : Bool) (k : Arguments) → Looks k t → Tells (Scoped ns t) (along m x ns l k t))
 
@@ -265,6 +270,7 @@ unlam x b = go (eta b) (eta-some b)
 scoped-under : (ns : List ℕ) (u : ℕ → Term) (b : Term) → Scoped ns (inst_all u (Lam b)) → Scoped ns (inst_all (lifted u) b)
 scoped-under ns u b w a m = ap (has_name a) (ap (λ r. fill r b) (sym (fun_ext (below-valued u)))) ∙ unlam a (fill (below (valued u)) b) (w a m)
 
+-- the value of a variable doesn't use the position
 abbrev pub Spares : (ℕ → Term) → ℕ → ℕ → ℕ → Type 0
 Spares u y i n = UsesOnly n (all_but i n) (u y)
 
@@ -309,6 +315,7 @@ listed-last : (xs : List Term) (a : Term) → listed (xs ++ a ∷ []) (length xs
 listed-last [] a = refl
 listed-last (x ∷ xs) a = listed-last xs a
 
+-- no bound on arguments
 abbrev Always : ℕ → ℕ → Type 0
 Always v j = Unit {0}
 
@@ -339,11 +346,11 @@ module _ (m x : ℕ) (ns : List ℕ) where
   head-says G l (Con c) = tt
   head-says G l _ = tt
 
-  neat-says : (v n : ℕ) (l : Bool) (t : Term) → Says (ForeignAt ns v n t) (along m x ns l (pattern_spine v n) t)
-  neat-says v n l (Lam b) = tt
-  neat-says v n l (At h) = head-says (ForeignAt ns v n (At h)) l h
-  neat-says v n l (App f a) = says-later (ForeignAt ns v n (App f a)) (along m x ns l (pattern_spine v n) f) (cond (is_foreign ns a) (cond l scope (dropped v (length (args_of f)) n)) fine)
-      (says-map (ForeignAt ns v n f) (ForeignAt ns v n (App f a)) longer (along m x ns l (pattern_spine v n) f) (neat-says v n l f))
+  pattern-says : (v n : ℕ) (l : Bool) (t : Term) → Says (ForeignAt ns v n t) (along m x ns l (pattern_spine v n) t)
+  pattern-says v n l (Lam b) = tt
+  pattern-says v n l (At h) = head-says (ForeignAt ns v n (At h)) l h
+  pattern-says v n l (App f a) = says-later (ForeignAt ns v n (App f a)) (along m x ns l (pattern_spine v n) f) (cond (is_foreign ns a) (cond l scope (dropped v (length (args_of f)) n)) fine)
+      (says-map (ForeignAt ns v n f) (ForeignAt ns v n (App f a)) longer (along m x ns l (pattern_spine v n) f) (pattern-says v n l f))
       (go l (is_foreign ns a) refl)
     where
       size : length (args_of f ++ a ∷ []) ≡ length (args_of f) + 1
@@ -376,16 +383,17 @@ module _ (m x : ℕ) (ns : List ℕ) where
   other_spine-says G l t = keeps-says G (along m x ns l other_spine t) (other-keeps Always always-down m x ns t l (fits-loose Always always-down t 0 (always-fits t 0)))
 
   -- the instance at a pattern spine
-  neat-spares : (u : ℕ → Term) → IsChoice m u → (v : ℕ) (t : Term) → head_of t ≡ Some (Var v) → (ks : List SpineName) → args_of t ≡ terms_of ks → Scoped ns (inst_all u t)
+  pattern-spares : (u : ℕ → Term) → IsChoice m u → (v : ℕ) (t : Term) → head_of t ≡ Some (Var v) → (ks : List SpineName) → args_of t ≡ terms_of ks → Scoped ns (inst_all u t)
       → (y i n : ℕ) → ForeignAt ns v (length (args_of t)) t y i n → Spares u y i n
-  neat-spares u s v t e ks d w y i n q =
+  pattern-spares u s v t e ks d w y i n q =
       let a : ℕ = q.3.0 in
       let len : length (terms_of ks) ≡ n = sym (ap length d) ∙ q.1 in
-      let whole : sub (listed (terms_of ks)) (body n (u v)) ≡ inst_all u t = body-applied n (terms_of ks) len (marks-ready ks) (u v) ∙ sym (inst-pattern u t v ks e d) in
+      let whole : sub (listed (terms_of ks)) (body n (u v)) ≡ inst_all u t = body-applied n (terms_of ks) len (spine-ready ks) (u v) ∙ sym (inst-pattern u t v ks e d) in
       let gone : has_name q.3.0 (sub (listed (terms_of ks)) (body n (u v))) ≡ false = ap (has_name q.3.0) whole ∙ w q.3.0 q.3.2 in
       let at : listed (terms_of ks) i ≡ At (Name q.3.0) = sym (ap (λ xs. listed xs i) d) ∙ q.3.1 in
       subst (λ z. Spares u z i n) q.0 (but-uses i n (u v) (s.substitution.nameless v) (unused q.3.0 (listed (terms_of ks)) i (body n (u v)) at gone))
 
+  -- both looks at a term
   abbrev SparedOf : Term → Type 0
   SparedOf t = ((u : ℕ → Term) (l : Bool) → IsChoice m u → Scoped ns (inst_all u t) → Says (Spares u) (offence m x ns l t)) × ((u : ℕ → Term) (l : Bool) (h : Head) → IsChoice m u → head_of t ≡ Some h → Frozen m h → Scoped ns (inst_all u t) → Says (Spares u) (along m x ns l of_rigid t))
 
@@ -396,15 +404,15 @@ module _ (m x : ℕ) (ns : List ℕ) where
       says-later (Spares u) (along m x ns l of_rigid f) (offence m x ns l a) (i (λ z m. or_left _ _ (both z m))) (j (λ z m. or_right _ _ (both z m)))
 
   spared-top : (u : ℕ → Term) (l : Bool) (f a : Term) → IsChoice m u → Scoped ns (inst_all u (App f a)) → ((h : Head) → head_of f ≡ Some h → Frozen m h → Says (Spares u) (along m x ns l of_rigid (App f a))) → (o : Option Head) → head_of f ≡ o → Says (Spares u) (along m x ns l (arguments m o (args_of f ++ a ∷ [])) (App f a))
-  spared-top u l f a s w k (Some (Var v)) e = by_mark (nat_lt v m) refl
+  spared-top u l f a s w k (Some (Var v)) e = by_spine_name (nat_lt v m) refl
     where
       go : (q : Option (List SpineName)) → pattern_of (args_of f ++ a ∷ []) ≡ q → Says (Spares u) (along m x ns l (of_flexible v (args_of f ++ a ∷ []) q) (App f a))
       go None d = other_spine-says (Spares u) l (App f a)
-      go (Some ks) d = says-map (ForeignAt ns v (length (args_of f ++ a ∷ [])) (App f a)) (Spares u) (neat-spares u s v (App f a) e ks (pattern-terms (args_of f ++ a ∷ []) ks d).0 w) (along m x ns l (pattern_spine v (length (args_of f ++ a ∷ []))) (App f a)) (neat-says v (length (args_of f ++ a ∷ [])) l (App f a))
+      go (Some ks) d = says-map (ForeignAt ns v (length (args_of f ++ a ∷ [])) (App f a)) (Spares u) (pattern-spares u s v (App f a) e ks (pattern-terms (args_of f ++ a ∷ []) ks d).0 w) (along m x ns l (pattern_spine v (length (args_of f ++ a ∷ []))) (App f a)) (pattern-says v (length (args_of f ++ a ∷ [])) l (App f a))
 
-      by_mark : (b : Bool) → nat_lt v m ≡ b → Says (Spares u) (along m x ns l (cond b of_rigid (of_flexible v (args_of f ++ a ∷ []) (pattern_of (args_of f ++ a ∷ [])))) (App f a))
-      by_mark true d = k (Var v) e d
-      by_mark false d = go (pattern_of (args_of f ++ a ∷ [])) refl
+      by_spine_name : (b : Bool) → nat_lt v m ≡ b → Says (Spares u) (along m x ns l (cond b of_rigid (of_flexible v (args_of f ++ a ∷ []) (pattern_of (args_of f ++ a ∷ [])))) (App f a))
+      by_spine_name true d = k (Var v) e d
+      by_spine_name false d = go (pattern_of (args_of f ++ a ∷ [])) refl
   spared-top u l f a s w k (Some (Con c)) e = k (Con c) e tt
   spared-top u l f a s w k (Some (Int c)) e = k (Int c) e tt
   spared-top u l f a s w k (Some (Str c)) e = k (Str c) e tt

@@ -25,8 +25,8 @@ use Rattle.ref_terms.specs.ending.Measure.{fits-lacks}
 use Rattle.ref_terms.specs.ending.OffenceLemmas.{Told, told, fits-head}
 use Rattle.ref_terms.specs.ending.Rules.{Shaped, shape-is, Frozen}
 use Rattle.ref_terms.proofs.unification.ValueLemmas.{names, IsNameless, AllBelow, over, over-built, over-nameless, kept-over, UsesOnly, nameless-names, applied-closed}
-use Rattle.ref_terms.proofs.unification.KeptLemmas.{terms_of, terms-marks, marks, length-marks, Distinct, kept_value, any-mem, same-uses, same-solved, agree-below, shared-uses, shared-below, positions-below, shared-solved, second-over, read-off, but-below}
-use Rattle.ref_terms.proofs.unification.DropLemmas.{DistinctMarks, pattern-terms, inst-spine, inst-pattern, Scoped, Tells, fine-scoped, Says, Spares, dropped-spared, NotLam, apply-plain, rigid-plain}
+use Rattle.ref_terms.proofs.unification.KeptLemmas.{terms_of, terms-spine, as_spine, length-spine, Distinct, kept_value, any-mem, same-uses, same-solved, agree-below, shared-uses, shared-below, positions-below, shared-solved, second-over, read-off, but-below}
+use Rattle.ref_terms.proofs.unification.DropLemmas.{DistinctNames, pattern-terms, inst-spine, inst-pattern, Scoped, Tells, fine-scoped, Says, Spares, dropped-spared, NotLam, apply-plain, rigid-plain}
 use Rattle.ref_terms.proofs.unification.SideLemmas.{IsClosed, Known, known-down, Side, Value, Sides, Values, sides-inst, sides-append, side-apply, value-keeping, value-closed, SideList, side-args, sides-equations, only-names, Agree, inst-agree-on, solves-agree, follow-choice, closed-names, closed-close_all, follow-solves, extended, extended-choice, extended-agrees, extended-at, Forced}
 
 -- what a step from these equations keeps
@@ -39,6 +39,7 @@ pub record Kept (m q : ℕ) (old : List Binding) (es : List Equation) (p : Probl
   pub back : (s : ℕ → Term) → IsChoice m s → IsUnifier s p.equations → IsChoice m (through made s) × IsUnifier (through made s) es
   pub forth : (u : ℕ → Term) → IsChoice m u → IsUnifier u es → (s : ℕ → Term) × IsChoice m s × Agree q u s × IsUnifier s p.equations × Forced s made
 
+-- what a step keeps: a step that goes on keeps the unifiers, and the last one leaves no equation
 abbrev pub StepKeeps : ℕ → Problem → List Equation → Step → Type 0
 StepKeeps m p es (Goes r) = Kept m p.next_var p.bindings es r
 StepKeeps m p es (Ends (Solved r)) = (r ≡ p) × (es ≡ [])
@@ -56,15 +57,15 @@ follow-off : (s : ℕ → Term) (v w : ℕ) (c : Term) → nat_eq v w ≡ false 
 follow-off s v w c e = ap (λ r. cond r (inst_all s c) (s w)) e
 
 -- a pattern spine of a side
-distinct-names : (ns : List ℕ) → DistinctMarks (marks ns) → Distinct ns
+distinct-names : (ns : List ℕ) → DistinctNames (as_spine ns) → Distinct ns
 distinct-names [] w = tt
 distinct-names (n ∷ ns) w = (sym (any-mem n ns) ∙ w.0, distinct-names ns w.1)
 
-named : (q n : ℕ) (t : Term) → Side q n t → (xs : List SpineName) → pattern_of (args_of t) ≡ Some xs → (xs ≡ marks (names_of xs)) × (args_of t ≡ names (names_of xs)) × Distinct (names_of xs)
+named : (q n : ℕ) (t : Term) → Side q n t → (xs : List SpineName) → pattern_of (args_of t) ≡ Some xs → (xs ≡ as_spine (names_of xs)) × (args_of t ≡ names (names_of xs)) × Distinct (names_of xs)
 named q n t s xs k =
     let d = pattern-terms (args_of t) xs k in
-    let r : xs ≡ marks (names_of xs) = only-names q n xs (subst (SideList q n) d.0 (side-args q n t s)) in
-    (r, d.0 ∙ ap terms_of r ∙ terms-marks (names_of xs), distinct-names (names_of xs) (subst DistinctMarks r d.1))
+    let r : xs ≡ as_spine (names_of xs) = only-names q n xs (subst (SideList q n) d.0 (side-args q n t s)) in
+    (r, d.0 ∙ ap terms_of r ∙ terms-spine (names_of xs), distinct-names (names_of xs) (subst DistinctNames r d.1))
 
 -- rigid heads
 heads-equal : (h k : Head) → head_eq h k ≡ true → h ≡ k
@@ -114,9 +115,11 @@ over-closed : (n : ℕ) (ks : List ℕ) (w : Term) → IsClosed w → IsClosed (
 over-closed n ks w k = closed-close_all ks (apply_all w (names (names_below n))) (closed-names (names_below n) w k)
 
 module _ (m : ℕ) (e : Equation) (es : List Equation) (p : Problem) (hl : Side p.next_var e.names e.left) (hr : Side p.next_var e.names e.right) (others : Sides p.next_var es) (above : m ≤ p.next_var) where
+  -- what is shown of a rule
   abbrev pub Result : Step → Type 0
   Result = StepKeeps m p (e ∷ es)
 
+  -- the next variable
   abbrev pub q : ℕ
   q = p.next_var
 
@@ -177,26 +180,27 @@ module _ (m : ℕ) (e : Equation) (es : List Equation) (p : Problem) (hl : Side 
   drop-keeps v ns t y i n l ny k = fresh-keeps y n (all_but i n) l ny (subst (λ m. AllBelow m (all_but i n)) (let z : 0 + n ≡ n = omega arith in z) (but-below i 0 n)) (e ∷ es) ((hl, hr), others) (λ u g h. (k u g h.0, h)) (λ s g w b n d h. h)
 
   inst-names : (u : ℕ → Term) (t : Term) (v : ℕ) (ns : List ℕ) → head_of t ≡ Some (Var v) → args_of t ≡ names ns → inst_all u t ≡ apply_all (u v) (names ns)
-  inst-names u t v ns d a = inst-pattern u t v (marks ns) d (a ∙ sym (terms-marks ns)) ∙ ap (apply_all (u v)) (terms-marks ns)
+  inst-names u t v ns d a = inst-pattern u t v (as_spine ns) d (a ∙ sym (terms-spine ns)) ∙ ap (apply_all (u v)) (terms-spine ns)
 
   -- two variables
   abbrev pub first_value : List ℕ → List ℕ → Term
-  first_value ns ms = keeping (length (marks ns)) (shared 0 (marks ns) (marks ms)) q
+  first_value ns ms = keeping (length (as_spine ns)) (shared 0 (as_spine ns) (as_spine ms)) q
 
+  -- the value of the right variable
   abbrev pub second_value : List ℕ → List ℕ → Term
-  second_value ns ms = keeping (length (marks ms)) (positions_of 0 (marks ns) (marks ms)) q
+  second_value ns ms = keeping (length (as_spine ms)) (positions_of 0 (as_spine ns) (as_spine ms)) q
 
   first-good : (ns ms : List ℕ) → Value (suc q) (first_value ns ms)
-  first-good ns ms = value-keeping (suc q) (length (marks ns)) (shared 0 (marks ns) (marks ms)) q (subst (λ m. AllBelow m (shared 0 (marks ns) (marks ms))) (let z : 0 + length (marks ns) ≡ length (marks ns) = omega arith in z) (shared-below 0 (marks ns) (marks ms))) (omega arith)
+  first-good ns ms = value-keeping (suc q) (length (as_spine ns)) (shared 0 (as_spine ns) (as_spine ms)) q (subst (λ m. AllBelow m (shared 0 (as_spine ns) (as_spine ms))) (let z : 0 + length (as_spine ns) ≡ length (as_spine ns) = omega arith in z) (shared-below 0 (as_spine ns) (as_spine ms))) (omega arith)
 
   second-good : (ns ms : List ℕ) → Value (suc q) (second_value ns ms)
-  second-good ns ms = value-keeping (suc q) (length (marks ms)) (positions_of 0 (marks ns) (marks ms)) q (subst (λ m. AllBelow m (positions_of 0 (marks ns) (marks ms))) (sym (length-marks ms)) (positions-below 0 ns ms)) (omega arith)
+  second-good ns ms = value-keeping (suc q) (length (as_spine ms)) (positions_of 0 (as_spine ns) (as_spine ms)) q (subst (λ m. AllBelow m (positions_of 0 (as_spine ns) (as_spine ms))) (sym (length-spine ms)) (positions-below 0 ns ms)) (omega arith)
 
-  inst-first : (s : ℕ → Term) → IsChoice m s → (ns ms : List ℕ) → inst_all s (first_value ns ms) ≡ kept_value (length ns) (shared 0 (marks ns) (marks ms)) (s q)
-  inst-first s g ns ms = inst-keeping s g.substitution (length (marks ns)) (shared 0 (marks ns) (marks ms)) q ∙ ap (λ n. kept_value n (shared 0 (marks ns) (marks ms)) (s q)) (length-marks ns)
+  inst-first : (s : ℕ → Term) → IsChoice m s → (ns ms : List ℕ) → inst_all s (first_value ns ms) ≡ kept_value (length ns) (shared 0 (as_spine ns) (as_spine ms)) (s q)
+  inst-first s g ns ms = inst-keeping s g.substitution (length (as_spine ns)) (shared 0 (as_spine ns) (as_spine ms)) q ∙ ap (λ n. kept_value n (shared 0 (as_spine ns) (as_spine ms)) (s q)) (length-spine ns)
 
-  inst-second : (s : ℕ → Term) → IsChoice m s → (ns ms : List ℕ) → inst_all s (second_value ns ms) ≡ kept_value (length ms) (positions_of 0 (marks ns) (marks ms)) (s q)
-  inst-second s g ns ms = inst-keeping s g.substitution (length (marks ms)) (positions_of 0 (marks ns) (marks ms)) q ∙ ap (λ n. kept_value n (positions_of 0 (marks ns) (marks ms)) (s q)) (length-marks ms)
+  inst-second : (s : ℕ → Term) → IsChoice m s → (ns ms : List ℕ) → inst_all s (second_value ns ms) ≡ kept_value (length ms) (positions_of 0 (as_spine ns) (as_spine ms)) (s q)
+  inst-second s g ns ms = inst-keeping s g.substitution (length (as_spine ms)) (positions_of 0 (as_spine ns) (as_spine ms)) q ∙ ap (λ n. kept_value n (positions_of 0 (as_spine ns) (as_spine ms)) (s q)) (length-spine ms)
 
   differs : (w : ℕ) → w < q → nat_eq w q ≡ false
   differs w l = go (nat_eq w q) refl
@@ -205,6 +209,7 @@ module _ (m : ℕ) (e : Equation) (es : List Equation) (p : Problem) (hl : Side 
       go true e = let same : w ≡ p.next_var = eqb-true _ _ e in absurd (omega arith)
       go false e = refl
 
+  -- both bindings
   abbrev pub both_made : (v w : ℕ) → List ℕ → List ℕ → List Binding
   both_made v w ns ms = record { variable = w; value = second_value ns ms } ∷ record { variable = v; value = first_value ns ms } ∷ []
 
@@ -217,24 +222,24 @@ module _ (m : ℕ) (e : Equation) (es : List Equation) (p : Problem) (hl : Side 
       let s2 : ℕ → Term = follow (record { variable = v; value = first_value ns ms }) s1 in
       let g2 : IsChoice m s2 = follow-choice m s1 g1 v nv (first_value ns ms) (first-good ns ms).nameless (first-good ns ms).closed in
       let h2 : IsUnifier s2 es = follow-solves s1 g1.substitution v (first_value ns ms) es h1 in
-      let at_v : s2 v ≡ kept_value (length ns) (shared 0 (marks ns) (marks ms)) (s1 p.next_var) = follow-at s1 v (first_value ns ms) ∙ inst-first s1 g1 ns ms in
-      let at_w : s2 w ≡ kept_value (length ms) (positions_of 0 (marks ns) (marks ms)) (s1 p.next_var) = follow-off s1 v w (first_value ns ms) apart ∙ follow-at s w (second_value ns ms) ∙ inst-second s g ns ms ∙ ap (kept_value (length ms) (positions_of 0 (marks ns) (marks ms))) (sym (follow-off s w p.next_var (second_value ns ms) (differs w lw))) in
+      let at_v : s2 v ≡ kept_value (length ns) (shared 0 (as_spine ns) (as_spine ms)) (s1 p.next_var) = follow-at s1 v (first_value ns ms) ∙ inst-first s1 g1 ns ms in
+      let at_w : s2 w ≡ kept_value (length ms) (positions_of 0 (as_spine ns) (as_spine ms)) (s1 p.next_var) = follow-off s1 v w (first_value ns ms) apart ∙ follow-at s w (second_value ns ms) ∙ inst-second s g ns ms ∙ ap (kept_value (length ms) (positions_of 0 (as_spine ns) (as_spine ms))) (sym (follow-off s w p.next_var (second_value ns ms) (differs w lw))) in
       (g2, (inst-names s2 e.left v ns hd ad ∙ ap (λ t. apply_all t (names ns)) at_v ∙ shared-solved ns ms (s1 p.next_var) (g1.substitution.built p.next_var) (g1.substitution.nameless p.next_var) ∙ ap (λ t. apply_all t (names ms)) (sym at_w) ∙ sym (inst-names s2 e.right w ms hc ac), h2))
 
   two-forth : (v w : ℕ) (ns ms : List ℕ) → v < q → w < q → head_of e.left ≡ Some (Var v) → head_of e.right ≡ Some (Var w) → args_of e.left ≡ names ns → args_of e.right ≡ names ms → Distinct ms
       → (u : ℕ → Term) → IsChoice m u → IsUnifier u (e ∷ es) → (s : ℕ → Term) × IsChoice m s × Agree q u s × IsUnifier s (map (inst_equation w (second_value ns ms)) (map (inst_equation v (first_value ns ms)) es)) × Forced s (both_made v w ns ms)
   two-forth v w ns ms lv lw hd hc ad ac dis u g h =
       let meet : apply_all (u v) (names ns) ≡ apply_all (u w) (names ms) = sym (inst-names u e.left v ns hd ad) ∙ h.0 ∙ inst-names u e.right w ms hc ac in
-      let k : Term = over (length ns) (shared 0 (marks ns) (marks ms)) (u v) in
+      let k : Term = over (length ns) (shared 0 (as_spine ns) (as_spine ms)) (u v) in
       let s : ℕ → Term = extended u p.next_var k in
-      let kn : IsNameless k = over-nameless (length ns) (shared 0 (marks ns) (marks ms)) (u v) (shared-uses (length ns) ns ms refl (u v) (u w) (g.substitution.nameless v) (g.substitution.nameless w) meet) in
-      let sg : IsChoice m s = extended-choice m u g p.next_var above k (over-built (length ns) (shared 0 (marks ns) (marks ms)) (u v) (g.substitution.built v)) kn (over-closed (length ns) (shared 0 (marks ns) (marks ms)) (u v) (g.substitution.closed v)) in
+      let kn : IsNameless k = over-nameless (length ns) (shared 0 (as_spine ns) (as_spine ms)) (u v) (shared-uses (length ns) ns ms refl (u v) (u w) (g.substitution.nameless v) (g.substitution.nameless w) meet) in
+      let sg : IsChoice m s = extended-choice m u g p.next_var above k (over-built (length ns) (shared 0 (as_spine ns) (as_spine ms)) (u v) (g.substitution.built v)) kn (over-closed (length ns) (shared 0 (as_spine ns) (as_spine ms)) (u v) (g.substitution.closed v)) in
       let agree : Agree p.next_var u s = extended-agrees u p.next_var p.next_var k (omega arith) in
-      let bv : s v ≡ inst_all s (first_value ns ms) = sym (agree v lv) ∙ sym (kept-over (length ns) (shared 0 (marks ns) (marks ms)) (u v) (g.substitution.built v) (g.substitution.nameless v)) ∙ ap (kept_value (length ns) (shared 0 (marks ns) (marks ms))) (sym (extended-at u p.next_var k)) ∙ sym (inst-first s sg ns ms) in
-      let bw : s w ≡ inst_all s (second_value ns ms) = sym (agree w lw) ∙ sym (second-over ns ms dis (u v) (u w) (g.substitution.built v) (g.substitution.built w) (g.substitution.nameless v) (g.substitution.nameless w) meet) ∙ ap (kept_value (length ms) (positions_of 0 (marks ns) (marks ms))) (sym (extended-at u p.next_var k)) ∙ sym (inst-second s sg ns ms) in
+      let bv : s v ≡ inst_all s (first_value ns ms) = sym (agree v lv) ∙ sym (kept-over (length ns) (shared 0 (as_spine ns) (as_spine ms)) (u v) (g.substitution.built v) (g.substitution.nameless v)) ∙ ap (kept_value (length ns) (shared 0 (as_spine ns) (as_spine ms))) (sym (extended-at u p.next_var k)) ∙ sym (inst-first s sg ns ms) in
+      let bw : s w ≡ inst_all s (second_value ns ms) = sym (agree w lw) ∙ sym (second-over ns ms dis (u v) (u w) (g.substitution.built v) (g.substitution.built w) (g.substitution.nameless v) (g.substitution.nameless w) meet) ∙ ap (kept_value (length ms) (positions_of 0 (as_spine ns) (as_spine ms))) (sym (extended-at u p.next_var k)) ∙ sym (inst-second s sg ns ms) in
       (s, sg, agree, binding-keeps s sg.substitution w (second_value ns ms) bw (map (inst_equation v (first_value ns ms)) es) (binding-keeps s sg.substitution v (first_value ns ms) bv es (solves-agree p.next_var u s agree es others h.1)), (bw, (bv, tt)))
 
-  pub two-keeps : (v w : ℕ) (ns ms : List ℕ) → v < q → w < q → nat_lt v m ≡ false → nat_lt w m ≡ false → nat_eq v w ≡ false → head_of e.left ≡ Some (Var v) → head_of e.right ≡ Some (Var w) → args_of e.left ≡ names ns → args_of e.right ≡ names ms → Distinct ms → Result (two_variables v w (marks ns) (marks ms) es p)
+  pub two-keeps : (v w : ℕ) (ns ms : List ℕ) → v < q → w < q → nat_lt v m ≡ false → nat_lt w m ≡ false → nat_eq v w ≡ false → head_of e.left ≡ Some (Var v) → head_of e.right ≡ Some (Var w) → args_of e.left ≡ names ns → args_of e.right ≡ names ms → Distinct ms → Result (two_variables v w (as_spine ns) (as_spine ms) es p)
   two-keeps v w ns ms lv lw nv nw apart hd hc ad ac dis = record {
     grows = omega arith;
     sides = sides-inst (suc q) (suc q) w (second_value ns ms) (omega arith) (second-good ns ms) (map (inst_equation v (first_value ns ms)) es) (sides-inst q (suc q) v (first_value ns ms) (omega arith) (first-good ns ms) es others);
@@ -326,7 +331,7 @@ module _ (m : ℕ) (e : Equation) (es : List Equation) (p : Problem) (hl : Side 
       go false s =
           let n = named q e.names e.left hl xs j in
           let r = named q e.names e.right hr ys k in
-          subst (λ (z : List SpineName). Result (two_variables v w z ys es p)) (sym n.0) (subst (λ (z : List SpineName). Result (two_variables v w (marks (names_of xs)) z es p)) (sym r.0)
+          subst (λ (z : List SpineName). Result (two_variables v w z ys es p)) (sym n.0) (subst (λ (z : List SpineName). Result (two_variables v w (as_spine (names_of xs)) z es p)) (sym r.0)
           (two-keeps v w (names_of xs) (names_of ys) (head-known e.left v hl d) (head-known e.right w hr c) nv nw s d c n.1 r.1 r.2))
   flex-keeps v w (Some xs) None d c nv nw j k = go (nat_eq v w)
     where

@@ -10,6 +10,7 @@ use Rattle.ref_terms.proofs.unification.SideLemmas.{Sides, sides-from, Agree, Fo
 use Rattle.ref_terms.proofs.unification.GeneralRules.{Kept, StepKeeps, step-keeps}
 use Rattle.ref_terms.proofs.unification.Steps.{unify-reached}
 
+-- what a solved run keeps of the unifiers
 pub record Outcome (m q : ℕ) (old : List Binding) (es : List Equation) (r : Problem) : Type 0 where
   pub made : List Binding
   pub bindings : r.bindings ≡ made ++ old

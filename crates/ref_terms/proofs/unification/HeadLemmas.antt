@@ -9,6 +9,7 @@ use Rattle.ref_terms.specs.unification.Pattern.{SpineName, of_name, of_bound, sp
 use Rattle.ref_terms.specs.terms.Occurs.{is_name}
 use Rattle.ref_terms.proofs.unification.CountLemmas.{tally, count, NoBound, count-apply_none, IsPlain, lams, core, balance}
 
+-- rigid heads
 abbrev pub is_rigid : ℕ → Head → Bool
 is_rigid m (Var v) = nat_lt v m
 is_rigid m (Con c) = true
@@ -17,6 +18,7 @@ is_rigid m (Str c) = true
 is_rigid m (Name c) = true
 is_rigid m (Bound c) = true
 
+-- the replacement leaves them alone
 abbrev pub RigidStay : ℕ → (Head → Term) → Type 0
 RigidStay m r = (h : Head) → is_rigid m h ≡ true → r h ≡ At h
 
@@ -69,6 +71,7 @@ module _ (m : ℕ) (r : Head → Term) (stays : RigidStay m r) where
   plain-stays (Lam b) w = absurd w
   plain-stays (App f a) w = absurd w
 
+-- each item of a list
 abbrev pub AllOf : (Term → Type 0) → List Term → Type 0
 AllOf P [] = Unit {0}
 AllOf P (x ∷ xs) = P x × AllOf P xs
@@ -132,23 +135,24 @@ outside-any n [] e = tt
 outside-any n (k ∷ ns) e = (or_left _ _ e, outside-any n ns (or_right _ _ e))
 
 module _ (p : Head → Bool) (n : NoBound p) where
-  unmet-mark : (t : Term) (x : SpineName) (xs : List SpineName) → spine_name t ≡ Some x → Outside p (names_of (x ∷ xs)) → Unmet p t
-  unmet-mark (At (Name k)) x xs e o =
+  unmet-spine_name : (t : Term) (x : SpineName) (xs : List SpineName) → spine_name t ≡ Some x → Outside p (names_of (x ∷ xs)) → Unmet p t
+  unmet-spine_name (At (Name k)) x xs e o =
       let same : x ≡ of_name k = let z : Some (of_name k) ≡ Some x = e in cc in
       let w : Outside p (k ∷ names_of xs) = subst (λ q. Outside p (names_of (q ∷ xs))) same o in
       (tt, ap tally w.0)
-  unmet-mark (At (Bound k)) x xs e o = (tt, ap tally (n k))
-  unmet-mark (At (Con k)) x xs e o = absurd (let z : None ≡ Some x = e in cc)
-  unmet-mark (At (Int k)) x xs e o = absurd (let z : None ≡ Some x = e in cc)
-  unmet-mark (At (Str k)) x xs e o = absurd (let z : None ≡ Some x = e in cc)
-  unmet-mark (At (Var k)) x xs e o = absurd (let z : None ≡ Some x = e in cc)
-  unmet-mark (Lam b) x xs e o = absurd (let z : None ≡ Some x = e in cc)
-  unmet-mark (App f a) x xs e o = absurd (let z : None ≡ Some x = e in cc)
+  unmet-spine_name (At (Bound k)) x xs e o = (tt, ap tally (n k))
+  unmet-spine_name (At (Con k)) x xs e o = absurd (let z : None ≡ Some x = e in cc)
+  unmet-spine_name (At (Int k)) x xs e o = absurd (let z : None ≡ Some x = e in cc)
+  unmet-spine_name (At (Str k)) x xs e o = absurd (let z : None ≡ Some x = e in cc)
+  unmet-spine_name (At (Var k)) x xs e o = absurd (let z : None ≡ Some x = e in cc)
+  unmet-spine_name (Lam b) x xs e o = absurd (let z : None ≡ Some x = e in cc)
+  unmet-spine_name (App f a) x xs e o = absurd (let z : None ≡ Some x = e in cc)
 
   outside-tail : (x : SpineName) (xs : List SpineName) → Outside p (names_of (x ∷ xs)) → Outside p (names_of xs)
   outside-tail (of_name k) xs o = o.1
   outside-tail (of_bound k) xs o = o
 
+  -- arguments in which no head passes the test, as many as names
   abbrev pub AllUnmet : List Term → List SpineName → Type 0
   AllUnmet ts ks = AllOf (Unmet p) ts × (length ks ≡ length ts)
 
@@ -162,7 +166,7 @@ module _ (p : Head → Bool) (n : NoBound p) where
           let same : ks ≡ x ∷ xs = let z : Some (x ∷ xs) ≡ Some ks = e in cc in
           let w : Outside p (names_of (x ∷ xs)) = subst (λ q. Outside p (names_of q)) same o in
           let j = i (outside-tail x xs w) in
-          ((unmet-mark t x xs d w, j.0), ap length same ∙ ap suc j.1)
+          ((unmet-spine_name t x xs d w, j.0), ap length same ∙ ap suc j.1)
 
       go : (k : Option SpineName) → spine_name t ≡ k → (q : Option (List SpineName)) → pattern_of ts ≡ q → ((q : List SpineName) → pattern_of ts ≡ Some q → Outside p (names_of q) → AllUnmet ts q) → add_distinct k q ≡ Some ks → AllUnmet (t ∷ ts) ks
       go (Some x) d (Some xs) c i e = deep x d xs (i xs c) (list_any (same_name x) xs) e

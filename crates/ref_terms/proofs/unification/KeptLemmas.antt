@@ -17,10 +17,12 @@ use Rattle.ref_terms.specs.lemmas.NameLemmas.{close-apply, nameless-apply, nat_e
 use Rattle.ref_terms.specs.ending.Bounds.{mem, mem-later}
 use Rattle.ref_terms.proofs.unification.ValueLemmas.{names, IsNameless, listed, BuiltReady, body, uses, same-used, unused, AllBelow, kept-applied, over, over-built, UsesOnly, over-nameless, kept-over, uses-only, body-applied, nameless-names, nameless-close_all, built-names, built-close_all}
 
+-- a name of a spine as a term
 abbrev pub term_of : SpineName → Term
 term_of (of_name n) = At (Name n)
 term_of (of_bound i) = At (Bound i)
 
+-- a spine as arguments
 abbrev pub terms_of : List SpineName → List Term
 terms_of [] = []
 terms_of (k ∷ ks) = term_of k ∷ terms_of ks
@@ -29,34 +31,34 @@ pub length-terms : (ks : List SpineName) → length (terms_of ks) ≡ length ks
 length-terms [] = refl
 length-terms (k ∷ ks) = ap suc (length-terms ks)
 
-mark-ready : (k : SpineName) → IsBuilt (term_of k) × (ready (term_of k) ≡ true)
-mark-ready (of_name n) = (tt, ready-name n)
-mark-ready (of_bound n) = (tt, ready-bound n)
+spine_name-ready : (k : SpineName) → IsBuilt (term_of k) × (ready (term_of k) ≡ true)
+spine_name-ready (of_name n) = (tt, ready-name n)
+spine_name-ready (of_bound n) = (tt, ready-bound n)
 
-pub marks-ready : (ks : List SpineName) → BuiltReady (terms_of ks)
-marks-ready [] = tt
-marks-ready (k ∷ ks) = (mark-ready k, marks-ready ks)
+pub spine-ready : (ks : List SpineName) → BuiltReady (terms_of ks)
+spine-ready [] = tt
+spine-ready (k ∷ ks) = (spine_name-ready k, spine-ready ks)
 
 eq-from : (a b : ℕ) → a ≡ b → nat_eq a b ≡ true
 eq-from a b e = subst (λ z. nat_eq a z ≡ true) e (nat_eq_self a)
 
-mark-same : (a b : SpineName) → term_of a ≡ term_of b → same_name a b ≡ true
-mark-same (of_name a) (of_name b) e = let z : At (Name a) ≡ At (Name b) = e in let d : a ≡ b = cc in eq-from a b d
-mark-same (of_bound a) (of_bound b) e = let z : At (Bound a) ≡ At (Bound b) = e in let d : a ≡ b = cc in eq-from a b d
-mark-same (of_name a) (of_bound b) e = absurd (let z : At (Name a) ≡ At (Bound b) = e in cc)
-mark-same (of_bound a) (of_name b) e = absurd (let z : At (Bound a) ≡ At (Name b) = e in cc)
+spine_name-same : (a b : SpineName) → term_of a ≡ term_of b → same_name a b ≡ true
+spine_name-same (of_name a) (of_name b) e = let z : At (Name a) ≡ At (Name b) = e in let d : a ≡ b = cc in eq-from a b d
+spine_name-same (of_bound a) (of_bound b) e = let z : At (Bound a) ≡ At (Bound b) = e in let d : a ≡ b = cc in eq-from a b d
+spine_name-same (of_name a) (of_bound b) e = absurd (let z : At (Name a) ≡ At (Bound b) = e in cc)
+spine_name-same (of_bound a) (of_name b) e = absurd (let z : At (Bound a) ≡ At (Name b) = e in cc)
 
-same-mark : (a b : SpineName) → same_name a b ≡ true → term_of a ≡ term_of b
-same-mark (of_name a) (of_name b) e = ap (λ z. At (Name z)) (eqb-true _ _ e)
-same-mark (of_bound a) (of_bound b) e = ap (λ z. At (Bound z)) (eqb-true _ _ e)
-same-mark (of_name a) (of_bound b) e = absurd (let z : false ≡ true = e in cc)
-same-mark (of_bound a) (of_name b) e = absurd (let z : false ≡ true = e in cc)
+same-spine_name : (a b : SpineName) → same_name a b ≡ true → term_of a ≡ term_of b
+same-spine_name (of_name a) (of_name b) e = ap (λ z. At (Name z)) (eqb-true _ _ e)
+same-spine_name (of_bound a) (of_bound b) e = ap (λ z. At (Bound z)) (eqb-true _ _ e)
+same-spine_name (of_name a) (of_bound b) e = absurd (let z : false ≡ true = e in cc)
+same-spine_name (of_bound a) (of_name b) e = absurd (let z : false ≡ true = e in cc)
 
 -- one variable on both sides
 agree-mem : (i j : ℕ) (xs ys : List SpineName) → j < length xs → j < length ys → listed (terms_of xs) j ≡ listed (terms_of ys) j → mem (i + j) (agreeing i xs ys) ≡ true
 agree-mem i j [] ys l k e = absurd (omega arith)
 agree-mem i j (a ∷ xs) [] l k e = absurd (omega arith)
-agree-mem i zero (a ∷ xs) (b ∷ ys) l k e = rw (mark-same a b e) (let z : i + 0 ≡ i = omega arith in ap (λ n. nat_eq n i || mem n (agreeing (suc i) xs ys)) z ∙ ap (λ r. r || mem i (agreeing (suc i) xs ys)) (nat_eq_self i))
+agree-mem i zero (a ∷ xs) (b ∷ ys) l k e = rw (spine_name-same a b e) (let z : i + 0 ≡ i = omega arith in ap (λ n. nat_eq n i || mem n (agreeing (suc i) xs ys)) z ∙ ap (λ r. r || mem i (agreeing (suc i) xs ys)) (nat_eq_self i))
 agree-mem i (suc j) (a ∷ xs) (b ∷ ys) l k e = go (subst (λ n. mem n (agreeing (suc i) xs ys) ≡ true) (let z : suc i + j ≡ i + suc j = omega arith in z) (agree-mem (suc i) j xs ys (omega arith) (omega arith) e)) (same_name a b)
   where
     go : mem (i + suc j) (agreeing (suc i) xs ys) ≡ true → (r : Bool) → mem (i + suc j) (cond r (i ∷ agreeing (suc i) xs ys) (agreeing (suc i) xs ys)) ≡ true
@@ -67,7 +69,7 @@ pub same-uses : (n : ℕ) (xs ys : List SpineName) → length xs ≡ n → lengt
 same-uses n xs ys a b w f e = uses-only n (agreeing 0 xs ys) w f (λ j l u. subst (λ i. mem i (agreeing 0 xs ys) ≡ true) (let z : 0 + j ≡ j = omega arith in z)
     (agree-mem 0 j xs ys (omega arith) (omega arith)
     (same-used (listed (terms_of xs)) (listed (terms_of ys)) (body n w) j
-    (body-applied n (terms_of xs) (length-terms xs ∙ a) (marks-ready xs) w ∙ e ∙ sym (body-applied n (terms_of ys) (length-terms ys ∙ b) (marks-ready ys) w)) u)))
+    (body-applied n (terms_of xs) (length-terms xs ∙ a) (spine-ready xs) w ∙ e ∙ sym (body-applied n (terms_of ys) (length-terms ys ∙ b) (spine-ready ys) w)) u)))
 
 below-more : (n m : ℕ) → n ≤ m → (ks : List ℕ) → AllBelow n ks → AllBelow m ks
 below-more n m l [] h = tt
@@ -88,9 +90,10 @@ agree-map f g i (a ∷ xs) [] h k = refl
 agree-map f g i (a ∷ xs) (b ∷ ys) h k = go (agree-map f g (suc i) xs ys (λ j. let z : suc i + j ≡ i + suc j = omega arith in ap f z ∙ h (suc j)) (λ j. let z : suc i + j ≡ i + suc j = omega arith in ap g z ∙ k (suc j))) (same_name a b) refl
   where
     go : map f (agreeing (suc i) xs ys) ≡ map g (agreeing (suc i) xs ys) → (r : Bool) → same_name a b ≡ r → map f (cond r (i ∷ agreeing (suc i) xs ys) (agreeing (suc i) xs ys)) ≡ map g (cond r (i ∷ agreeing (suc i) xs ys) (agreeing (suc i) xs ys))
-    go e true d = let z : i ≡ i + 0 = omega arith in ap₂ (λ (y : Term) (zs : List Term). y ∷ zs) (ap f z ∙ h zero ∙ same-mark a b d ∙ sym (k zero) ∙ ap g (sym z)) e
+    go e true d = let z : i ≡ i + 0 = omega arith in ap₂ (λ (y : Term) (zs : List Term). y ∷ zs) (ap f z ∙ h zero ∙ same-spine_name a b d ∙ sym (k zero) ∙ ap g (sym z)) e
     go e false d = e
 
+-- over n names, a value applied to those at the kept positions
 abbrev pub kept_value : ℕ → List ℕ → Term → Term
 kept_value n ks w = close_all (names_below n) (apply_all w (names ks))
 
@@ -98,21 +101,21 @@ pub same-solved : (n : ℕ) (xs ys : List SpineName) → length xs ≡ n → len
     → apply_all (kept_value n (agreeing 0 xs ys) w) (terms_of xs) ≡ apply_all (kept_value n (agreeing 0 xs ys) w) (terms_of ys)
 same-solved n xs ys a b w c f =
     let h : AllBelow n (agreeing 0 xs ys) = subst (λ m. AllBelow m (agreeing 0 xs ys)) (let z : 0 + length xs ≡ n = omega arith in z) (agree-below 0 xs ys) in
-    kept-applied n (agreeing 0 xs ys) h w c f (terms_of xs) (length-terms xs ∙ a) (marks-ready xs)
+    kept-applied n (agreeing 0 xs ys) h w c f (terms_of xs) (length-terms xs ∙ a) (spine-ready xs)
     ∙ ap (apply_all w) (agree-map (listed (terms_of xs)) (listed (terms_of ys)) 0 xs ys (λ j. let z : 0 + j ≡ j = omega arith in ap (listed (terms_of xs)) z) (λ j. let z : 0 + j ≡ j = omega arith in ap (listed (terms_of ys)) z))
-    ∙ sym (kept-applied n (agreeing 0 xs ys) h w c f (terms_of ys) (length-terms ys ∙ b) (marks-ready ys))
+    ∙ sym (kept-applied n (agreeing 0 xs ys) h w c f (terms_of ys) (length-terms ys ∙ b) (spine-ready ys))
 
 -- two variables
-abbrev pub marks : List ℕ → List SpineName
-marks ns = map (λ n. of_name n) ns
+abbrev pub as_spine : List ℕ → List SpineName
+as_spine ns = map (λ n. of_name n) ns
 
-pub terms-marks : (ns : List ℕ) → terms_of (marks ns) ≡ names ns
-terms-marks [] = refl
-terms-marks (n ∷ ns) = ap (λ (xs : List Term). At (Name n) ∷ xs) (terms-marks ns)
+pub terms-spine : (ns : List ℕ) → terms_of (as_spine ns) ≡ names ns
+terms-spine [] = refl
+terms-spine (n ∷ ns) = ap (λ (xs : List Term). At (Name n) ∷ xs) (terms-spine ns)
 
-pub length-marks : (ns : List ℕ) → length (marks ns) ≡ length ns
-length-marks [] = refl
-length-marks (n ∷ ns) = ap suc (length-marks ns)
+pub length-spine : (ns : List ℕ) → length (as_spine ns) ≡ length ns
+length-spine [] = refl
+length-spine (n ∷ ns) = ap suc (length-spine ns)
 
 length-names : (ns : List ℕ) → length (names ns) ≡ length ns
 length-names [] = refl
@@ -122,10 +125,11 @@ pub names-ready : (ns : List ℕ) → BuiltReady (names ns)
 names-ready [] = tt
 names-ready (n ∷ ns) = ((tt, ready-name n), names-ready ns)
 
-pub any-mem : (n : ℕ) (ms : List ℕ) → list_any (same_name (of_name n)) (marks ms) ≡ mem n ms
+pub any-mem : (n : ℕ) (ms : List ℕ) → list_any (same_name (of_name n)) (as_spine ms) ≡ mem n ms
 any-mem n [] = refl
 any-mem n (m ∷ ms) = ap (λ r. nat_eq n m || r) (any-mem n ms)
 
+-- numbers, each once
 abbrev pub Distinct : List ℕ → Type 0
 Distinct [] = Unit {0}
 Distinct (n ∷ ns) = (mem n ns ≡ false) × Distinct ns
@@ -142,53 +146,53 @@ pub read-off : (ns : List ℕ) → Distinct ns → (w : Term) → IsBuilt w → 
 read-off [] d w b f = refl
 read-off (n ∷ ns) d w b f = ap (close n) (read-off ns d.1 (apply w (At (Name n))) (built-apply w (At (Name n)) b tt) (λ x m. nameless-apply x w (At (Name n)) (f x (mem-later x n ns m)) (mem-head x n ns d.0 m))) ∙ close-apply n w b (f n (ap (λ r. r || mem n ns) (nat_eq_self n)))
 
-shared-case : (i j : ℕ) (ns ms : List ℕ) → j < length ns → (mem (i + j) (shared i (marks ns) (marks ms)) ≡ true) ⊎ ((a : ℕ) × (listed (names ns) j ≡ At (Name a)) × (mem a ms ≡ false))
+shared-case : (i j : ℕ) (ns ms : List ℕ) → j < length ns → (mem (i + j) (shared i (as_spine ns) (as_spine ms)) ≡ true) ⊎ ((a : ℕ) × (listed (names ns) j ≡ At (Name a)) × (mem a ms ≡ false))
 shared-case i j [] ms l = absurd (omega arith)
 shared-case i zero (n ∷ ns) ms l = rw (any-mem n ms) (go (mem n ms) refl)
   where
-    go : (r : Bool) → mem n ms ≡ r → (mem (i + 0) (cond r (i ∷ shared (suc i) (marks ns) (marks ms)) (shared (suc i) (marks ns) (marks ms))) ≡ true) ⊎ ((a : ℕ) × (At (Name n) ≡ At (Name a)) × (mem a ms ≡ false))
-    go true e = inl (let z : i + 0 ≡ i = omega arith in ap (λ k. nat_eq k i || mem k (shared (suc i) (marks ns) (marks ms))) z ∙ ap (λ r. r || mem i (shared (suc i) (marks ns) (marks ms))) (nat_eq_self i))
+    go : (r : Bool) → mem n ms ≡ r → (mem (i + 0) (cond r (i ∷ shared (suc i) (as_spine ns) (as_spine ms)) (shared (suc i) (as_spine ns) (as_spine ms))) ≡ true) ⊎ ((a : ℕ) × (At (Name n) ≡ At (Name a)) × (mem a ms ≡ false))
+    go true e = inl (let z : i + 0 ≡ i = omega arith in ap (λ k. nat_eq k i || mem k (shared (suc i) (as_spine ns) (as_spine ms))) z ∙ ap (λ r. r || mem i (shared (suc i) (as_spine ns) (as_spine ms))) (nat_eq_self i))
     go false e = inr (n, refl, e)
-shared-case i (suc j) (n ∷ ns) ms l = go (shared-case (suc i) j ns ms (omega arith)) (list_any (same_name (of_name n)) (marks ms))
+shared-case i (suc j) (n ∷ ns) ms l = go (shared-case (suc i) j ns ms (omega arith)) (list_any (same_name (of_name n)) (as_spine ms))
   where
-    go : (mem (suc i + j) (shared (suc i) (marks ns) (marks ms)) ≡ true) ⊎ ((a : ℕ) × (listed (names ns) j ≡ At (Name a)) × (mem a ms ≡ false)) → (r : Bool)
-        → (mem (i + suc j) (cond r (i ∷ shared (suc i) (marks ns) (marks ms)) (shared (suc i) (marks ns) (marks ms))) ≡ true) ⊎ ((a : ℕ) × (listed (names ns) j ≡ At (Name a)) × (mem a ms ≡ false))
-    go (inl h) true = inl (mem-later (i + suc j) i (shared (suc i) (marks ns) (marks ms)) (subst (λ k. mem k (shared (suc i) (marks ns) (marks ms)) ≡ true) (let z : suc i + j ≡ i + suc j = omega arith in z) h))
-    go (inl h) false = inl (subst (λ k. mem k (shared (suc i) (marks ns) (marks ms)) ≡ true) (let z : suc i + j ≡ i + suc j = omega arith in z) h)
+    go : (mem (suc i + j) (shared (suc i) (as_spine ns) (as_spine ms)) ≡ true) ⊎ ((a : ℕ) × (listed (names ns) j ≡ At (Name a)) × (mem a ms ≡ false)) → (r : Bool)
+        → (mem (i + suc j) (cond r (i ∷ shared (suc i) (as_spine ns) (as_spine ms)) (shared (suc i) (as_spine ns) (as_spine ms))) ≡ true) ⊎ ((a : ℕ) × (listed (names ns) j ≡ At (Name a)) × (mem a ms ≡ false))
+    go (inl h) true = inl (mem-later (i + suc j) i (shared (suc i) (as_spine ns) (as_spine ms)) (subst (λ k. mem k (shared (suc i) (as_spine ns) (as_spine ms)) ≡ true) (let z : suc i + j ≡ i + suc j = omega arith in z) h))
+    go (inl h) false = inl (subst (λ k. mem k (shared (suc i) (as_spine ns) (as_spine ms)) ≡ true) (let z : suc i + j ≡ i + suc j = omega arith in z) h)
     go (inr h) r = inr h
 
-pub shared-uses : (n : ℕ) (ns ms : List ℕ) → length ns ≡ n → (w z : Term) → IsNameless w → IsNameless z → apply_all w (names ns) ≡ apply_all z (names ms) → UsesOnly n (shared 0 (marks ns) (marks ms)) w
-shared-uses n ns ms a w z f g e = uses-only n (shared 0 (marks ns) (marks ms)) w f (λ j l u. go j u (shared-case 0 j ns ms (omega arith)))
+pub shared-uses : (n : ℕ) (ns ms : List ℕ) → length ns ≡ n → (w z : Term) → IsNameless w → IsNameless z → apply_all w (names ns) ≡ apply_all z (names ms) → UsesOnly n (shared 0 (as_spine ns) (as_spine ms)) w
+shared-uses n ns ms a w z f g e = uses-only n (shared 0 (as_spine ns) (as_spine ms)) w f (λ j l u. go j u (shared-case 0 j ns ms (omega arith)))
   where
-    go : (j : ℕ) → uses j (body n w) ≡ true → (mem (0 + j) (shared 0 (marks ns) (marks ms)) ≡ true) ⊎ ((a : ℕ) × (listed (names ns) j ≡ At (Name a)) × (mem a ms ≡ false)) → mem j (shared 0 (marks ns) (marks ms)) ≡ true
-    go j u (inl h) = subst (λ i. mem i (shared 0 (marks ns) (marks ms)) ≡ true) (let y : 0 + j ≡ j = omega arith in y) h
+    go : (j : ℕ) → uses j (body n w) ≡ true → (mem (0 + j) (shared 0 (as_spine ns) (as_spine ms)) ≡ true) ⊎ ((a : ℕ) × (listed (names ns) j ≡ At (Name a)) × (mem a ms ≡ false)) → mem j (shared 0 (as_spine ns) (as_spine ms)) ≡ true
+    go j u (inl h) = subst (λ i. mem i (shared 0 (as_spine ns) (as_spine ms)) ≡ true) (let y : 0 + j ≡ j = omega arith in y) h
     go j u (inr (x, q, m)) =
         let k : has_name x (sub (listed (names ns)) (body n w)) ≡ false = subst (λ t. has_name x t ≡ false) (sym (body-applied n (names ns) (length-names ns ∙ a) (names-ready ns) w ∙ e)) (nameless-names x ms z (g x) m) in
         let l : uses j (body n w) ≡ false = unused x (listed (names ns)) j (body n w) q k in
         absurd (let y : true ≡ false = sym u ∙ l in cc)
 
-position-at : (g : ℕ → Term) (i a : ℕ) (ms : List ℕ) → ((j : ℕ) → g (i + j) ≡ listed (names ms) j) → mem a ms ≡ true → g (position i (of_name a) (marks ms)) ≡ At (Name a)
+position-at : (g : ℕ → Term) (i a : ℕ) (ms : List ℕ) → ((j : ℕ) → g (i + j) ≡ listed (names ms) j) → mem a ms ≡ true → g (position i (of_name a) (as_spine ms)) ≡ At (Name a)
 position-at g i a [] h m = absurd (let z : false ≡ true = m in cc)
 position-at g i a (b ∷ ms) h m = go (nat_eq a b) refl m (λ q. position-at g (suc i) a ms (λ j. let z : suc i + j ≡ i + suc j = omega arith in ap g z ∙ h (suc j)) q)
   where
-    go : (r : Bool) → nat_eq a b ≡ r → (r || mem a ms) ≡ true → (mem a ms ≡ true → g (position (suc i) (of_name a) (marks ms)) ≡ At (Name a)) → g (cond r i (position (suc i) (of_name a) (marks ms))) ≡ At (Name a)
+    go : (r : Bool) → nat_eq a b ≡ r → (r || mem a ms) ≡ true → (mem a ms ≡ true → g (position (suc i) (of_name a) (as_spine ms)) ≡ At (Name a)) → g (cond r i (position (suc i) (of_name a) (as_spine ms))) ≡ At (Name a)
     go true e q k = let z : i ≡ i + 0 = omega arith in ap g z ∙ h zero ∙ ap (λ y. At (Name y)) (sym (eqb-true _ _ e))
     go false e q k = k q
 
-position-below : (i a : ℕ) (ms : List ℕ) → mem a ms ≡ true → position i (of_name a) (marks ms) < i + length ms
+position-below : (i a : ℕ) (ms : List ℕ) → mem a ms ≡ true → position i (of_name a) (as_spine ms) < i + length ms
 position-below i a [] m = absurd (let z : false ≡ true = m in cc)
 position-below i a (b ∷ ms) m = go (nat_eq a b) m (λ q. position-below (suc i) a ms q)
   where
-    go : (r : Bool) → (r || mem a ms) ≡ true → (mem a ms ≡ true → position (suc i) (of_name a) (marks ms) < suc i + length ms) → cond r i (position (suc i) (of_name a) (marks ms)) < i + suc (length ms)
+    go : (r : Bool) → (r || mem a ms) ≡ true → (mem a ms ≡ true → position (suc i) (of_name a) (as_spine ms) < suc i + length ms) → cond r i (position (suc i) (of_name a) (as_spine ms)) < i + suc (length ms)
     go true q k = omega arith
-    go false q k = let x : position (suc i) (of_name a) (marks ms) < suc i + length ms = k q in omega arith
+    go false q k = let x : position (suc i) (of_name a) (as_spine ms) < suc i + length ms = k q in omega arith
 
-shared-map : (f : ℕ → Term) (i : ℕ) (ns ms : List ℕ) → ((j : ℕ) → f (i + j) ≡ listed (names ns) j) → map f (shared i (marks ns) (marks ms)) ≡ map (listed (names ms)) (positions_of i (marks ns) (marks ms))
+shared-map : (f : ℕ → Term) (i : ℕ) (ns ms : List ℕ) → ((j : ℕ) → f (i + j) ≡ listed (names ns) j) → map f (shared i (as_spine ns) (as_spine ms)) ≡ map (listed (names ms)) (positions_of i (as_spine ns) (as_spine ms))
 shared-map f i [] ms h = refl
-shared-map f i (n ∷ ns) ms h = go (shared-map f (suc i) ns ms (λ j. let z : suc i + j ≡ i + suc j = omega arith in ap f z ∙ h (suc j))) (list_any (same_name (of_name n)) (marks ms)) refl
+shared-map f i (n ∷ ns) ms h = go (shared-map f (suc i) ns ms (λ j. let z : suc i + j ≡ i + suc j = omega arith in ap f z ∙ h (suc j))) (list_any (same_name (of_name n)) (as_spine ms)) refl
   where
-    go : map f (shared (suc i) (marks ns) (marks ms)) ≡ map (listed (names ms)) (positions_of (suc i) (marks ns) (marks ms)) → (r : Bool) → list_any (same_name (of_name n)) (marks ms) ≡ r
-        → map f (cond r (i ∷ shared (suc i) (marks ns) (marks ms)) (shared (suc i) (marks ns) (marks ms))) ≡ map (listed (names ms)) (cond r (position 0 (of_name n) (marks ms) ∷ positions_of (suc i) (marks ns) (marks ms)) (positions_of (suc i) (marks ns) (marks ms)))
+    go : map f (shared (suc i) (as_spine ns) (as_spine ms)) ≡ map (listed (names ms)) (positions_of (suc i) (as_spine ns) (as_spine ms)) → (r : Bool) → list_any (same_name (of_name n)) (as_spine ms) ≡ r
+        → map f (cond r (i ∷ shared (suc i) (as_spine ns) (as_spine ms)) (shared (suc i) (as_spine ns) (as_spine ms))) ≡ map (listed (names ms)) (cond r (position 0 (of_name n) (as_spine ms) ∷ positions_of (suc i) (as_spine ns) (as_spine ms)) (positions_of (suc i) (as_spine ns) (as_spine ms)))
     go e true d = let z : i ≡ i + 0 = omega arith in ap₂ (λ (y : Term) (zs : List Term). y ∷ zs) (ap f z ∙ h zero ∙ sym (position-at (listed (names ms)) 0 n ms (λ j. let y : 0 + j ≡ j = omega arith in ap (listed (names ms)) y) (sym (any-mem n ms) ∙ d))) e
     go e false d = e
 
@@ -200,21 +204,21 @@ shared-below i (a ∷ xs) ys = go (subst (λ n. AllBelow n (shared (suc i) xs ys
     go h true = (omega arith, h)
     go h false = h
 
-pub positions-below : (i : ℕ) (ns ms : List ℕ) → AllBelow (length ms) (positions_of i (marks ns) (marks ms))
+pub positions-below : (i : ℕ) (ns ms : List ℕ) → AllBelow (length ms) (positions_of i (as_spine ns) (as_spine ms))
 positions-below i [] ms = tt
-positions-below i (n ∷ ns) ms = go (positions-below (suc i) ns ms) (list_any (same_name (of_name n)) (marks ms)) refl
+positions-below i (n ∷ ns) ms = go (positions-below (suc i) ns ms) (list_any (same_name (of_name n)) (as_spine ms)) refl
   where
-    go : AllBelow (length ms) (positions_of (suc i) (marks ns) (marks ms)) → (r : Bool) → list_any (same_name (of_name n)) (marks ms) ≡ r → AllBelow (length ms) (cond r (position 0 (of_name n) (marks ms) ∷ positions_of (suc i) (marks ns) (marks ms)) (positions_of (suc i) (marks ns) (marks ms)))
-    go h true d = (let x : position 0 (of_name n) (marks ms) < 0 + length ms = position-below 0 n ms (sym (any-mem n ms) ∙ d) in omega arith, h)
+    go : AllBelow (length ms) (positions_of (suc i) (as_spine ns) (as_spine ms)) → (r : Bool) → list_any (same_name (of_name n)) (as_spine ms) ≡ r → AllBelow (length ms) (cond r (position 0 (of_name n) (as_spine ms) ∷ positions_of (suc i) (as_spine ns) (as_spine ms)) (positions_of (suc i) (as_spine ns) (as_spine ms)))
+    go h true d = (let x : position 0 (of_name n) (as_spine ms) < 0 + length ms = position-below 0 n ms (sym (any-mem n ms) ∙ d) in omega arith, h)
     go h false d = h
 
 pub shared-solved : (ns ms : List ℕ) (w : Term) → IsBuilt w → IsNameless w
-    → apply_all (kept_value (length ns) (shared 0 (marks ns) (marks ms)) w) (names ns) ≡ apply_all (kept_value (length ms) (positions_of 0 (marks ns) (marks ms)) w) (names ms)
+    → apply_all (kept_value (length ns) (shared 0 (as_spine ns) (as_spine ms)) w) (names ns) ≡ apply_all (kept_value (length ms) (positions_of 0 (as_spine ns) (as_spine ms)) w) (names ms)
 shared-solved ns ms w c f =
-    let h : AllBelow (length ns) (shared 0 (marks ns) (marks ms)) = subst (λ m. AllBelow m (shared 0 (marks ns) (marks ms))) (let z : 0 + length (marks ns) ≡ length ns = (let y : length (marks ns) ≡ length ns = length-marks ns in omega arith) in z) (shared-below 0 (marks ns) (marks ms)) in
-    kept-applied (length ns) (shared 0 (marks ns) (marks ms)) h w c f (names ns) (length-names ns) (names-ready ns)
+    let h : AllBelow (length ns) (shared 0 (as_spine ns) (as_spine ms)) = subst (λ m. AllBelow m (shared 0 (as_spine ns) (as_spine ms))) (let z : 0 + length (as_spine ns) ≡ length ns = (let y : length (as_spine ns) ≡ length ns = length-spine ns in omega arith) in z) (shared-below 0 (as_spine ns) (as_spine ms)) in
+    kept-applied (length ns) (shared 0 (as_spine ns) (as_spine ms)) h w c f (names ns) (length-names ns) (names-ready ns)
     ∙ ap (apply_all w) (shared-map (listed (names ns)) 0 ns ms (λ j. let z : 0 + j ≡ j = omega arith in ap (listed (names ns)) z))
-    ∙ sym (kept-applied (length ms) (positions_of 0 (marks ns) (marks ms)) (positions-below 0 ns ms) w c f (names ms) (length-names ms) (names-ready ms))
+    ∙ sym (kept-applied (length ms) (positions_of 0 (as_spine ns) (as_spine ms)) (positions-below 0 ns ms) w c f (names ms) (length-names ms) (names-ready ms))
 
 mem-up : (k x n : ℕ) → k ≤ x → x < k + n → mem x (up_from k n) ≡ true
 mem-up k x zero l h = absurd (omega arith)
@@ -247,15 +251,15 @@ kept-built n ks w b = built-close_all (names_below n) (apply_all w (names ks)) (
 
 -- the second variable's value, over the same
 pub second-over : (ns ms : List ℕ) → Distinct ms → (w z : Term) → IsBuilt w → IsBuilt z → IsNameless w → IsNameless z → apply_all w (names ns) ≡ apply_all z (names ms)
-    → kept_value (length ms) (positions_of 0 (marks ns) (marks ms)) (over (length ns) (shared 0 (marks ns) (marks ms)) w) ≡ z
+    → kept_value (length ms) (positions_of 0 (as_spine ns) (as_spine ms)) (over (length ns) (shared 0 (as_spine ns) (as_spine ms)) w) ≡ z
 second-over ns ms d w z bw bz fw fz e =
-    let v : Term = over (length ns) (shared 0 (marks ns) (marks ms)) w in
-    let bv : IsBuilt v = over-built (length ns) (shared 0 (marks ns) (marks ms)) w bw in
-    let fv : IsNameless v = over-nameless (length ns) (shared 0 (marks ns) (marks ms)) w (shared-uses (length ns) ns ms refl w z fw fz e) in
-    let bk : IsBuilt (kept_value (length ms) (positions_of 0 (marks ns) (marks ms)) v) = kept-built (length ms) (positions_of 0 (marks ns) (marks ms)) v bv in
-    let fk : IsNameless (kept_value (length ms) (positions_of 0 (marks ns) (marks ms)) v) = kept-nameless (length ms) (positions_of 0 (marks ns) (marks ms)) v (positions-below 0 ns ms) fv in
-    sym (read-off ms d (kept_value (length ms) (positions_of 0 (marks ns) (marks ms)) v) bk (λ x m. fk x))
-    ∙ ap (close_all ms) (sym (shared-solved ns ms v bv fv) ∙ ap (λ t. apply_all t (names ns)) (kept-over (length ns) (shared 0 (marks ns) (marks ms)) w bw fw) ∙ e)
+    let v : Term = over (length ns) (shared 0 (as_spine ns) (as_spine ms)) w in
+    let bv : IsBuilt v = over-built (length ns) (shared 0 (as_spine ns) (as_spine ms)) w bw in
+    let fv : IsNameless v = over-nameless (length ns) (shared 0 (as_spine ns) (as_spine ms)) w (shared-uses (length ns) ns ms refl w z fw fz e) in
+    let bk : IsBuilt (kept_value (length ms) (positions_of 0 (as_spine ns) (as_spine ms)) v) = kept-built (length ms) (positions_of 0 (as_spine ns) (as_spine ms)) v bv in
+    let fk : IsNameless (kept_value (length ms) (positions_of 0 (as_spine ns) (as_spine ms)) v) = kept-nameless (length ms) (positions_of 0 (as_spine ns) (as_spine ms)) v (positions-below 0 ns ms) fv in
+    sym (read-off ms d (kept_value (length ms) (positions_of 0 (as_spine ns) (as_spine ms)) v) bk (λ x m. fk x))
+    ∙ ap (close_all ms) (sym (shared-solved ns ms v bv fv) ∙ ap (λ t. apply_all t (names ns)) (kept-over (length ns) (shared 0 (as_spine ns) (as_spine ms)) w bw fw) ∙ e)
     ∙ read-off ms d z bz (λ x m. fz x)
 
 -- all positions but one

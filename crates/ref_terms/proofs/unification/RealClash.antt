@@ -70,6 +70,7 @@ Real E (Ends (Clashed false)) = E → ⊥
 abbrev pub IndexNamed : Term → Type 0
 IndexNamed t = (i : ℕ) → head_of t ≡ Some (Bound i) → headed_by_name (Some (Bound i)) ≡ true
 
+-- nor so on either side of the first equation
 abbrev pub FirstNamed : List Equation → Type 0
 FirstNamed [] = Unit {0}
 FirstNamed (e ∷ es) = IndexNamed e.left × IndexNamed e.right
@@ -109,6 +110,7 @@ module _ (m : ℕ) (u : ℕ → Term) (good : IsChoice m u) where
   stays (Name c) e = refl
   stays (Bound c) e = refl
 
+  -- both sides are equal under the choice
   abbrev pub Same : Term → Term → Type 0
   Same s t = inst_all u s ≡ inst_all u t
 

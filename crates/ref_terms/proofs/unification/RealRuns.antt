@@ -12,6 +12,7 @@ use Rattle.ref_terms.proofs.unification.GeneralRules.{Kept, StepKeeps, step-keep
 use Rattle.ref_terms.proofs.unification.RealClash.{KeepsSolutions, real-where-kept}
 use Rattle.ref_terms.proofs.unification.Steps.{unify-reached}
 
+-- a head under one more abstraction
 abbrev pub head_moved : Option Head → Option Head
 head_moved None = None
 head_moved (Some h) = Some (ren_head next h)
@@ -29,6 +30,7 @@ closed-head t c i e =
     let z : suc i ≡ i = cc in
     absurd (omega arith)
 
+-- what a run keeps: proper sides, and frozen variables below the next one
 abbrev pub HasSides : ℕ → Problem → Type 0
 HasSides m p = (m ≤ p.next_var) × Sides p.next_var p.equations
 

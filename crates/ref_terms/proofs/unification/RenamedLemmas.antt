@@ -29,15 +29,15 @@ head-vars p (Lam b) = refl
 head-vars p (At h) = refl
 head-vars p (App f a) = head-vars p f
 
-mark-vars : (p : ℕ → ℕ) (t : Term) → spine_name (vars p t) ≡ spine_name t
-mark-vars p (At (Name n)) = refl
-mark-vars p (At (Bound n)) = refl
-mark-vars p (At _) = refl
-mark-vars p _ = refl
+spine_name-vars : (p : ℕ → ℕ) (t : Term) → spine_name (vars p t) ≡ spine_name t
+spine_name-vars p (At (Name n)) = refl
+spine_name-vars p (At (Bound n)) = refl
+spine_name-vars p (At _) = refl
+spine_name-vars p _ = refl
 
 pattern-vars : (p : ℕ → ℕ) (ts : List Term) → pattern_of (map (vars p) ts) ≡ pattern_of ts
 pattern-vars p [] = refl
-pattern-vars p (t ∷ ts) = rw (mark-vars p t, pattern-vars p ts) refl
+pattern-vars p (t ∷ ts) = rw (spine_name-vars p t, pattern-vars p ts) refl
 
 apply_all-vars : (p : ℕ → ℕ) (t : Term) (ts : List Term) → vars p (apply_all t ts) ≡ apply_all (vars p t) (map (vars p) ts)
 apply_all-vars p t [] = refl

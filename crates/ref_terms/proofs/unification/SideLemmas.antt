@@ -25,7 +25,7 @@ use Rattle.ref_terms.specs.ending.Fits.{FitsHead, Fits, before}
 use Rattle.ref_terms.specs.ending.Measure.{Downward, fits-any, fits-apply, fits-inst}
 use Rattle.ref_terms.specs.ending.Bounds.{fits-close_all, fits-keeping, less, mem}
 use Rattle.ref_terms.proofs.unification.ValueLemmas.{names, IsNameless, AllBelow, nameless-close_all}
-use Rattle.ref_terms.proofs.unification.KeptLemmas.{kept-nameless, marks, terms_of}
+use Rattle.ref_terms.proofs.unification.KeptLemmas.{kept-nameless, as_spine, terms_of}
 
 -- closed terms
 abbrev pub IsClosed : Term → Type 0
@@ -73,20 +73,24 @@ known-down q v j i l w = w
 pub known-more : (q r : ℕ) → q ≤ r → (t : Term) (i j : ℕ) → Fits (Known q) i t → Fits (Known r) j t
 known-more q r l t i j w = fits-any (Known q) (Known r) (λ v i j h. omega arith) t i j w
 
+-- a side of an equation, with its variables as a bound
 pub record Side (q n : ℕ) (t : Term) : Type 0 where
   pub closed : IsClosed t
   pub scoped : (x : ℕ) → n ≤ x → has_name x t ≡ false
   pub known : Fits (Known q) 0 t
 
+-- a value of a binding
 pub record Value (q : ℕ) (t : Term) : Type 0 where
   pub closed : IsClosed t
   pub nameless : IsNameless t
   pub known : Fits (Known q) 0 t
 
+-- both sides of each equation
 abbrev pub Sides : ℕ → List Equation → Type 0
 Sides q [] = Unit {0}
 Sides q (e ∷ es) = (Side q e.names e.left × Side q e.names e.right) × Sides q es
 
+-- the values of all bindings have known variables
 abbrev pub Values : ℕ → List Binding → Type 0
 Values q [] = Unit {0}
 Values q (b ∷ bs) = ((b.variable < q) × Fits (Known q) 0 b.value) × Values q bs
@@ -185,7 +189,7 @@ sides-equations q n [] ys v w = tt
 sides-equations q n (x ∷ xs) [] v w = tt
 
 -- a pattern spine of closed terms consists of names
-pub only-names : (q n : ℕ) (ks : List SpineName) → SideList q n (terms_of ks) → ks ≡ marks (names_of ks)
+pub only-names : (q n : ℕ) (ks : List SpineName) → SideList q n (terms_of ks) → ks ≡ as_spine (names_of ks)
 only-names q n [] w = refl
 only-names q n (of_name k ∷ ks) w = ap (λ (z : List SpineName). of_name k ∷ z) (only-names q n ks w.1)
 only-names q n (of_bound i ∷ ks) w = absurd (let z : At (Bound (suc i)) ≡ At (Bound i) = w.0.closed next in let d : suc i ≡ i = cc in omega arith)

@@ -22,9 +22,11 @@ use Rattle.ref_terms.specs.ending.Bounds.{mem}
 use Rattle.ref_terms.specs.ending.Rules.{keeping-again}
 use Rattle.ref_terms.specs.laws.TermLaws.{KeepsReady, AllBuilt}
 
+-- names as arguments
 abbrev pub names : List ℕ → List Term
 names ns = map (λ n. At (Name n)) ns
 
+-- a term without names
 abbrev pub IsNameless : Term → Type 0
 IsNameless t = (x : ℕ) → has_name x t ≡ false
 
@@ -34,6 +36,7 @@ listed [] i = At (Bound i)
 listed (a ∷ xs) zero = a
 listed (a ∷ xs) (suc i) = listed xs i
 
+-- arguments that are ready
 abbrev pub ReadyList : List Term → Type 0
 ReadyList [] = Unit {0}
 ReadyList (a ∷ xs) = (ready a ≡ true) × ReadyList xs
@@ -43,6 +46,7 @@ listed-ready [] h i = ready-bound i
 listed-ready (a ∷ xs) h zero = h.0
 listed-ready (a ∷ xs) h (suc i) = listed-ready xs h.1 i
 
+-- the index past n more abstractions
 abbrev pub beyond : ℕ → ℕ → ℕ
 beyond zero i = i
 beyond (suc n) i = suc (beyond n i)
@@ -51,6 +55,7 @@ listed-beyond : (xs : List Term) (i : ℕ) → listed xs (beyond (length xs) i) 
 listed-beyond [] i = refl
 listed-beyond (a ∷ xs) i = listed-beyond xs i
 
+-- so many bound indices as arguments
 abbrev pub indices : (ℕ → ℕ) → ℕ → List Term
 indices g zero = []
 indices g (suc n) = At (Bound (g zero)) ∷ indices (λ i. g (suc i)) n
@@ -78,6 +83,7 @@ abbrev pub is_index : ℕ → Head → Bool
 is_index i (Bound j) = nat_eq i j
 is_index i _ = false
 
+-- whether the index is free in a term
 abbrev pub uses : ℕ → Term → Bool
 uses i (Lam b) = uses (suc i) b
 uses i (At h) = is_index i h
@@ -257,11 +263,13 @@ swap-closed q w k n a h t =
     ∙ sym (fill-sub (swap q n a) (λ h. fill (below q) (closing n h)) (λ i. At (Bound i)) (first a) (ready-first a h) (swap-fits q n a) t)
     ∙ ap (fill (swap q n a)) (sub_id t)
 
+-- terms for names, one after the other
 abbrev pub swaps : (Head → Term) → List ℕ → List Term → Head → Term
 swaps q (n ∷ ns) (a ∷ xs) = swaps (swap q n a) ns xs
 swaps q [] xs = q
 swaps q (n ∷ ns) [] = q
 
+-- arguments that are built and ready
 abbrev pub BuiltReady : List Term → Type 0
 BuiltReady [] = Unit {0}
 BuiltReady (a ∷ xs) = (IsBuilt a × (ready a ≡ true)) × BuiltReady xs
@@ -332,6 +340,7 @@ swaps-at i (suc n) j l [] e q = absurd (omega arith)
 swaps-at i (suc n) zero l (a ∷ xs) e q = let z : i + 0 ≡ i = omega arith in ap (λ k. swaps (swap q i a) (up_from (suc i) n) xs (Name k)) z ∙ swaps-skip i (suc i) n (omega arith) xs (swap q i a) ∙ ap (λ b. cond b a (q (Name i))) (nat_eq_self i)
 swaps-at i (suc n) (suc j) l (a ∷ xs) e q = let z : i + suc j ≡ suc i + j = omega arith in ap (λ k. swaps (swap q i a) (up_from (suc i) n) xs (Name k)) z ∙ swaps-at (suc i) n j (omega arith) xs (omega arith) (swap q i a)
 
+-- numbers below n
 abbrev pub AllBelow : ℕ → List ℕ → Type 0
 AllBelow n [] = Unit {0}
 AllBelow n (k ∷ ks) = (k < n) × AllBelow n ks
@@ -385,6 +394,7 @@ over n ks w = close_all ks (apply_all w (names (names_below n)))
 pub over-built : (n : ℕ) (ks : List ℕ) (w : Term) → IsBuilt w → IsBuilt (over n ks w)
 over-built n ks w b = built-close_all ks (apply_all w (names (names_below n))) (built-names (names_below n) w b)
 
+-- the value, applied to names, has those at the kept positions alone
 abbrev pub UsesOnly : ℕ → List ℕ → Term → Type 0
 UsesOnly n ks w = (x : ℕ) → mem x ks ≡ false → has_name x (apply_all w (names (names_below n))) ≡ false
 

@@ -13,6 +13,7 @@ use Rattle.ref_terms.specs.ending.Measure.{Downward, Loose, fits-loose, or_none}
 abbrev pub IsSpineName : Term → Type 0
 IsSpineName t = (v : ℕ) → occurs v t ≡ false
 
+-- arguments that are names
 abbrev pub AllSpineNames : List Term → Type 0
 AllSpineNames [] = Unit {0}
 AllSpineNames (t ∷ ts) = IsSpineName t × AllSpineNames ts
@@ -161,6 +162,7 @@ module _ (P : ℕ → ℕ → Type 0) (down : Downward P) (m x : ℕ) (ns : List
   spine-knows f a w (Some _) e = fits-loose P down (App f a) 0 w
   spine-knows f a w None e = fits-loose P down (App f a) 0 w
 
+  -- both looks at a term
   abbrev pub ToldOf : Term → Type 0
   ToldOf t = ((l : Bool) → Fits P 0 t → Told l (occurs x t ≡ false) (offence m x ns l t)) × ((l : Bool) (k : Arguments) → Knows k t → Told l (occurs x t ≡ false) (along m x ns l k t))
 

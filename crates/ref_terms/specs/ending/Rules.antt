@@ -28,6 +28,7 @@ Frozen m (Var v) = nat_lt v m ≡ true
 Frozen m (Con c) = Unit {0}
 Frozen m _ = Unit {0}
 
+-- what a shape says of its term
 abbrev pub Shaped : ℕ → Term → Shape → Type 0
 Shaped m t Abstraction = (b : Term) × (t ≡ Lam b)
 Shaped m t Redex = Unit {0}
@@ -82,6 +83,7 @@ equations-fit P n (x ∷ xs) (y ∷ ys) v w = ((v.0, w.0), equations-fit P n xs 
 equations-fit P n [] ys v w = tt
 equations-fit P n (x ∷ xs) [] v w = tt
 
+-- arguments that are built
 abbrev pub ArgsBuilt : List Term → Type 0
 ArgsBuilt [] = Unit {0}
 ArgsBuilt (x ∷ xs) = IsBuilt x × ArgsBuilt xs
@@ -100,6 +102,7 @@ equations-built n (x ∷ xs) (y ∷ ys) v w = ((v.0, w.0), equations-built n xs 
 equations-built n [] ys v w = tt
 equations-built n (x ∷ xs) [] v w = tt
 
+-- the size of all arguments
 abbrev pub arg_sizes : List Term → ℕ
 arg_sizes [] = 0
 arg_sizes (x ∷ xs) = size x + arg_sizes xs
@@ -196,10 +199,10 @@ TopTold P x t scope = Unit {0}
 TopTold P x t itself = Unit {0}
 TopTold P x t foreign = Unit {0}
 
-frozen-firm : (m : ℕ) (h : Head) (xs : List Term) → Frozen m h → arguments m (Some h) xs ≡ of_rigid
-frozen-firm m (Var v) xs f = rw f refl
-frozen-firm m (Con c) xs f = refl
-frozen-firm m _ xs f = refl
+frozen-rigid : (m : ℕ) (h : Head) (xs : List Term) → Frozen m h → arguments m (Some h) xs ≡ of_rigid
+frozen-rigid m (Var v) xs f = rw f refl
+frozen-rigid m (Con c) xs f = refl
+frozen-rigid m _ xs f = refl
 
 module _ (P : ℕ → ℕ → Type 0) (down : Downward P) (m x : ℕ) (ns : List ℕ) where
   told-rigid : (t : Term) (h : Head) → head_of t ≡ Some h → Frozen m h → Loose P t → TopTold P x t (offence m x ns false t)
@@ -217,7 +220,7 @@ module _ (P : ℕ → ℕ → Type 0) (down : Downward P) (m x : ℕ) (ns : List
       by_cases (Lam b) h e f w = absurd (let z : None ≡ Some h = e in cc)
       by_cases (At k) h e f w = told-along P down m x ns (At k) false of_rigid w
       by_cases (App g a) h e f w =
-          let k : arguments m (head_of g) (args_of g ++ a ∷ []) ≡ of_rigid = ap (λ o. arguments m o (args_of g ++ a ∷ [])) e ∙ frozen-firm m h (args_of g ++ a ∷ []) f in
+          let k : arguments m (head_of g) (args_of g ++ a ∷ []) ≡ of_rigid = ap (λ o. arguments m o (args_of g ++ a ∷ [])) e ∙ frozen-rigid m h (args_of g ++ a ∷ []) f in
           subst (λ s. Told P down m x ns false (occurs x (App g a) ≡ false) (along m x ns false s (App g a))) (sym k) (told-along P down m x ns (App g a) false of_rigid w)
 
   told-other : (t : Term) (v : ℕ) → head_of t ≡ Some (Var v) → nat_lt v m ≡ false → pattern_of (args_of t) ≡ None → Loose P t → TopTold P x t (offence m x ns false t)
@@ -238,6 +241,7 @@ module _ (P : ℕ → ℕ → Type 0) (down : Downward P) (m x : ℕ) (ns : List
 
 -- a rule, where the first equation is e
 module _ (vs : List ℕ) (b : ℕ → ℕ) (m : ℕ) (e : Equation) (es : List Equation) (p : Problem) (here : Midway (Here vs b) e) (others : AllFit (Here vs b) es) (u : ℕ) (built : u ≡ 0 → AreBuilt (e ∷ es)) where
+  -- what is shown of a rule
   abbrev pub Result : Step → Type 0
   Result = Moves (length vs) (room_of b vs u) (sizes (e ∷ es))
 
@@ -355,6 +359,7 @@ module _ (vs : List ℕ) (b : ℕ → ℕ) (m : ℕ) (e : Equation) (es : List E
   opened-size : (t c : Term) → t ≡ Lam c → size (apply t (At (Name e.names))) + 2 ≤ size t
   opened-size t c d = let x : size (apply (Lam c) (At (Name e.names))) ≡ size c = size-opened c e.names in let y : size (apply t (At (Name e.names))) ≡ size (apply (Lam c) (At (Name e.names))) = ap (λ z. size (apply z (At (Name e.names)))) d in let z : size t ≡ suc (suc (size c)) = ap size d in omega arith
 
+  -- both sides applied to a fresh name
   abbrev Opened : Step
   Opened = Goes (record p { equations = record { names = suc e.names; left = apply e.left (At (Name e.names)); right = apply e.right (At (Name e.names)) } ∷ es })
 

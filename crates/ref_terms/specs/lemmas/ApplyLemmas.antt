@@ -8,6 +8,7 @@ use Rattle.ref_terms.specs.terms.Apply.{apply}
 use Rattle.ref_terms.specs.lemmas.TermLemmas.{sub-ren, sub-sub, sub_id}
 use Rattle.ref_terms.specs.lemmas.ReadyFacts.{ready-bound, ready-lam, ready-sub, ready-ren}
 
+-- the terms for indices are ready
 abbrev pub AllReady : (ℕ → Term) → Type 0
 AllReady s = (i : ℕ) → ready (s i) ≡ true
 

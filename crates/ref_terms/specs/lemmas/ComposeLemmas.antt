@@ -63,6 +63,7 @@ fill-lam r w b = lam_filled r b (eta b) w refl (eta-some b)
 
 -- replacing heads in a body that was opened with ready terms
 module _ where
+  -- replacing indices by s and then heads by r is replacing heads by q and then indices by z, at each head
   abbrev pub Fits : (r q : Head → Term) (s z : ℕ → Term) → Type 0
   Fits r q s z = (h : Head) → fill r (sub_head s h) ≡ sub z (q h)
 

@@ -26,6 +26,7 @@ pub or_right : (a b : Bool) → (a || b) ≡ false → b ≡ false
 or_right false b e = e
 or_right true b e = absurd (let k : true ≡ false = e in cc)
 
+-- both replacements agree at all heads but the name
 abbrev pub AgreeButName : ℕ → (Head → Term) → (Head → Term) → Type 0
 AgreeButName x r q = (h : Head) → is_name x h ≡ false → r h ≡ q h
 

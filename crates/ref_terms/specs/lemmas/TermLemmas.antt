@@ -1,3 +1,4 @@
+-- Renaming and replacing bound indices: two in a row are one.
 use Rattle.std.proofs.Common.{◌≡◌, ℕ, zero, suc, refl, sym, ap, ap₂, ◌∙◌}
 use mathlib.Core.Path.{fun_ext}
 use Rattle.ref_terms.specs.terms.Term.{Term, Lam, At, App, Head, Con, Bound}
