@@ -9,7 +9,7 @@ use Rattle.std.specs.declared.option.Option.{Option}
 use Rattle.std.specs.Prelude.{option_to_list, ⊤}
 use Rattle.ref_terms.specs.terms.Term.{Term, At, Con}
 use Rattle.ref_terms.specs.unification.Spine.{args_of, head_of}
-use Rattle.ref_terms.specs.unification.Unify.{Equation, Solved, Clashed}
+use Rattle.ref_terms.specs.unification.Problem.{Equation, Solved, Clashed}
 use Rattle.ref_terms.specs.unification.Unification.{unify}
 use Rattle.ref_terms.specs.search.Fault.{Judged, Good}
 use Rattle.ref_terms.specs.search.Program.{headed_by, from_clauses}

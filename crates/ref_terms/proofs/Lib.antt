@@ -1,5 +1,7 @@
 pub mod Front
 pub mod Samples
 pub mod TextLemmas
+pub mod examples
 pub mod rows
+pub mod terms
 pub mod unification

@@ -1,2 +1,16 @@
+pub mod BindingLemmas
+pub mod ClashLemmas
+pub mod CountLemmas
+pub mod DropLemmas
+pub mod GeneralRules
+pub mod GeneralRun
+pub mod HeadLemmas
+pub mod KeptLemmas
 pub mod OneAnswer
+pub mod RealClash
+pub mod RealRuns
+pub mod RenamedLemmas
+pub mod RunRenamed
+pub mod SideLemmas
 pub mod Steps
+pub mod ValueLemmas

@@ -1,5 +1,8 @@
 pub mod Apply
 pub mod Built
+pub mod Eta
+pub mod Index
+pub mod Instance
 pub mod Occurs
 pub mod Ready
 pub mod Renamed

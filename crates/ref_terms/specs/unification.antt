@@ -1,9 +1,16 @@
+pub mod Bind
 pub mod Closing
 pub mod MostGeneral
 pub mod Offence
+pub mod Pattern
+pub mod Positions
+pub mod Problem
+pub mod Proper
 pub mod RealClash
 pub mod Renamed
+pub mod Rules
+pub mod Run
+pub mod Shape
 pub mod Spine
 pub mod Unification
 pub mod Unifier
-pub mod Unify

@@ -1,6 +1,62 @@
 //! What holds of the definitions. Each function does nothing: its contract is the law.
 
+ghost use Rattle.ref_terms.specs.laws.TermLaws.{FillTwiceIsOnce, FillAppliesTheSame, FillAbstractsTheSame, InstanceApplies, InstanceOfAllApplies, ApplicationBuilds, AbstractionBuilds, FillBuilds, BuiltStays, AbsentVariable, OpeningIsReplacing, ApplicationOpens, AbstractionUndoesApplication, ApplicationUndoesAbstraction};
+ghost use Rattle.ref_terms.specs.laws.ReadyLaws.{NameIsReady, BoundIndexIsReady, ReadyIsRigid, ReadyAfterInstance, ReadyAfterOpening, UnreadyAfterOpening};
 ghost use Rattle.ref_terms.specs.laws.UnifyLaws.{HasOneAnswer, UnificationEnds, UnifyIsReached, UnifyIsTheOnlyAnswer, StepKeepsAnswer, LastStepAnswers, StepsFall, LastStepIsOne};
+ghost use Rattle.ref_terms.specs.unification.MostGeneral.{MostGeneral};
+ghost use Rattle.ref_terms.specs.unification.RealClash.{RealClash, RealClashes};
+
+/// Replacing heads twice is replacing them once, and it commutes with application and abstraction.
+///
+/// The terms that are put in have to be built, and ready heads have to get ready terms: else a redex
+/// that was contracted at the first replacement would have got stuck at the second.
+pub fn law_replacing_heads()
+    ensures twice { FillTwiceIsOnce }
+    ensures applies { FillAppliesTheSame }
+    ensures abstracts { FillAbstractsTheSame }
+{}
+
+/// An instance by built terms commutes with application.
+pub fn law_instance()
+    ensures one { InstanceApplies }
+    ensures all { InstanceOfAllApplies }
+{}
+
+/// Application, abstraction and replacing heads build from what is built, and rebuilding that
+/// changes nothing.
+pub fn law_built()
+    ensures application { ApplicationBuilds }
+    ensures abstraction { AbstractionBuilds }
+    ensures replacing { FillBuilds }
+    ensures again { BuiltStays }
+{}
+
+/// A variable that doesn't stand in a term makes no difference to it.
+pub fn law_absent_variable()
+    ensures { AbsentVariable }
+{}
+
+/// Opening with a ready term contracts nothing, and is what application of an abstraction does.
+pub fn law_opening()
+    ensures replaces { OpeningIsReplacing }
+    ensures applies { ApplicationOpens }
+{}
+
+/// Abstraction of a name and application to it undo each other.
+pub fn law_abstracting_names()
+    ensures abstracted { AbstractionUndoesApplication }
+    ensures applied { ApplicationUndoesAbstraction }
+{}
+
+/// The facts on ready terms, by which all that is said of them is proved.
+pub fn law_ready()
+    ensures name { NameIsReady }
+    ensures bound_index { BoundIndexIsReady }
+    ensures rigid { ReadyIsRigid }
+    ensures instance { ReadyAfterInstance }
+    ensures opening { ReadyAfterOpening }
+    ensures unready { UnreadyAfterOpening }
+{}
 
 /// A run of unification has one answer.
 pub fn law_one_answer()
@@ -28,4 +84,18 @@ pub fn law_unify_follows_steps()
 pub fn law_steps_fall()
     ensures goes { StepsFall }
     ensures ends { LastStepIsOne }
+{}
+
+/// Where `unify` solves a problem, its bindings are a most general unifier of it.
+pub fn law_most_general()
+    ensures { MostGeneral }
+{}
+
+/// Where `unify` answers with a clash that is no knot, the problem has no unifier.
+///
+/// `rule` says so of the clash of one rule, which needs less of the problem. A knot may have a
+/// unifier: `X x y = x (X y)` clashes by one, and `X = (a\ a)` solves it.
+pub fn law_real_clashes()
+    ensures rule { RealClash }
+    ensures run { RealClashes }
 {}

@@ -1,6 +1,8 @@
 -- A run has one answer.
 use Rattle.std.proofs.Common.{◌≡◌, ℕ, zero, suc, ◌+◌, Option, Some, None, arith, suc-add}
-use Rattle.ref_terms.specs.unification.Unify.{Problem, Answer, Step, Goes, Ends, step, after, run, Unifies}
+use Rattle.ref_terms.specs.unification.Problem.{Problem, Answer, Step, Goes, Ends}
+use Rattle.ref_terms.specs.unification.Rules.{step}
+use Rattle.ref_terms.specs.unification.Run.{after, run, Unifies}
 
 after-more : (f g : Problem → Option Answer) (a : Answer) → ((q : Problem) → f q ≡ Some a → g q ≡ Some a) → (s : Step) → after f s ≡ Some a → after g s ≡ Some a
 after-more f g a h (Ends b) e = e

@@ -1,6 +1,8 @@
 -- Unification as a function gives the answer of the run, and its steps fall.
 use Rattle.std.proofs.Common.{◌≡◌, ℕ, zero, suc, refl, sym, ap, ◌∙◌, Some, None}
-use Rattle.ref_terms.specs.unification.Unify.{Problem, Answer, Step, Goes, Ends, step, after, run, Unifies}
+use Rattle.ref_terms.specs.unification.Problem.{Problem, Answer, Step, Goes, Ends}
+use Rattle.ref_terms.specs.unification.Rules.{step}
+use Rattle.ref_terms.specs.unification.Run.{after, run, Unifies}
 use Rattle.ref_terms.specs.unification.Unification.{unify, steps_left, count_steps, steps_of}
 use Rattle.ref_terms.specs.ending.Ending.{unification-ends}
 use Rattle.ref_terms.proofs.unification.OneAnswer.{one_answer}

@@ -7,14 +7,17 @@ use Rattle.ref_terms.specs.unification.Closing.{closing, close, close_all, up_fr
 use Rattle.ref_terms.specs.ending.Fits.{Fits, before}
 use Rattle.ref_terms.specs.ending.Measure.{Downward, FitsThrough, fits-apply, fits-lam, fits-fill, fits-map, size, size-positive}
 
+-- whether a number is in a list
 abbrev pub mem : ℕ → List ℕ → Bool
 mem v [] = false
 mem v (w ∷ ws) = nat_eq v w || mem v ws
 
+-- the list without a number
 abbrev pub without : ℕ → List ℕ → List ℕ
 without v [] = []
 without v (w ∷ ws) = cond (nat_eq v w) (without v ws) (w ∷ without v ws)
 
+-- the sum of the bounds of a list
 abbrev pub total : (ℕ → ℕ) → List ℕ → ℕ
 total b [] = 0
 total b (w ∷ ws) = b w + total b ws
@@ -121,6 +124,7 @@ fits-close P d n t j w = fits-lam P d (fill (closing n) t) j (fits-fill P P d (c
     fits-closing (Con c) i h = tt
     fits-closing _ i h = tt
 
+-- j - k, cut off at 0
 abbrev pub less : ℕ → ℕ → ℕ
 less zero j = j
 less (suc k) j = less k (before j)
@@ -166,6 +170,7 @@ variables_of_head (Var v) = v ∷ []
 variables_of_head (Con c) = []
 variables_of_head _ = []
 
+-- the variables of a term
 abbrev pub variables_of : Term → List ℕ
 variables_of (Lam b) = variables_of b
 variables_of (At h) = variables_of_head h

@@ -1,7 +1,9 @@
 -- Unification ends.
 use Rattle.std.proofs.Common.{◌≡◌, ℕ, suc, refl, ap, ◌∙◌, List, [], ◌∷◌, ◌++◌, length, arith, inl, inr}
-use Rattle.ref_terms.specs.unification.Spine.{shape}
-use Rattle.ref_terms.specs.unification.Unify.{Equation, Problem, Answer, Step, Goes, Ends, step_at, step, after, run, Unifies}
+use Rattle.ref_terms.specs.unification.Shape.{shape}
+use Rattle.ref_terms.specs.unification.Problem.{Equation, Problem, Answer, Step, Goes, Ends}
+use Rattle.ref_terms.specs.unification.Rules.{step_at, step}
+use Rattle.ref_terms.specs.unification.Run.{after, run, Unifies}
 use Rattle.ref_terms.specs.ending.Measure.{fits-map}
 use Rattle.ref_terms.specs.ending.Bounds.{Among, bounded-downward, variables_of, fits-listed, mem-append-left, mem-append-right}
 use Rattle.ref_terms.specs.ending.Progress.{AllFit, Good, sizes, all-good, all-some-bound, AreBuilt, room_of, one_isnt, Moves, Here}
@@ -26,15 +28,19 @@ pub record State : Type 0 where
   pub good : Good (Here listed bound) problem.equations
   pub built : unbuilt ≡ 0 → AreBuilt problem.equations
 
+-- the run from a state comes to an answer
 abbrev pub Finishes : ℕ → State → Type 0
 Finishes m s = (a : Answer) × Unifies m s.problem a
 
+-- how many variables may occur
 abbrev pub count : State → ℕ
 count s = length s.listed
 
+-- how many arguments they may have
 abbrev pub room : State → ℕ
 room s = room_of s.bound s.listed s.unbuilt
 
+-- how large the equations are
 abbrev pub mass : State → ℕ
 mass s = sizes s.problem.equations
 
@@ -64,6 +70,7 @@ all-listed (e ∷ es) = (
   all-among (variables_in es) (variables_in (e ∷ es)) (λ v h. mem-append-right v (variables_of e.left ++ variables_of e.right) (variables_in es) h) es (all-listed es),
 )
 
+-- where a run begins: all variables are listed, with the size of the equations as their bound
 abbrev pub begun : Problem → State
 begun p = record {
   problem = p;

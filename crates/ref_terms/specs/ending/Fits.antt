@@ -11,6 +11,7 @@ FitsHead P j (Var v) = P v j
 FitsHead P j (Con c) = Unit {0}
 FitsHead P j _ = Unit {0}
 
+-- the arguments that are left after an abstraction took one
 abbrev pub before : ℕ → ℕ
 before zero = zero
 before (suc n) = n

@@ -1,9 +1,12 @@
 -- How many arguments a variable may get, and how large a term is: nothing that rebuilds a term raises these.
 use Rattle.std.proofs.Common.{◌≡◌, ℕ, zero, suc, ◌+◌, ◌≤◌, ◌<◌, Bool, true, false, cond, ◌||◌, nat_eq, refl, sym, ap, ap₂, ◌∙◌, subst, Option, Some, None, IfSome, arith, eqb-true}
-use Rattle.ref_terms.specs.terms.Term.{Term, Lam, At, App, Head, Con, Int, Str, Name, Bound, Var, ren, up, next, shift, under, sub, first, eta, lam, lam_of}
+use Rattle.ref_terms.specs.terms.Term.{Term, Lam, At, App, Head, Con, Int, Str, Name, Bound, Var}
+use Rattle.ref_terms.specs.terms.Index.{ren, up, next, shift, under, sub, first}
+use Rattle.ref_terms.specs.terms.Eta.{eta, lam, lam_of}
 use Rattle.ref_terms.specs.terms.Ready.{ready}
 use Rattle.ref_terms.specs.terms.Apply.{apply, below, fill}
-use Rattle.ref_terms.specs.terms.Occurs.{is_variable, only, inst, occurs}
+use Rattle.ref_terms.specs.terms.Occurs.{is_variable, occurs}
+use Rattle.ref_terms.specs.terms.Instance.{only, inst}
 use Rattle.ref_terms.specs.lemmas.EtaLemmas.{eta-some}
 use Rattle.ref_terms.specs.terms.Built.{IsBuilt, IsStuck}
 use Rattle.ref_terms.specs.terms.Renamed.{vars, vars_head}
@@ -12,6 +15,7 @@ use Rattle.ref_terms.specs.lemmas.ReadyFacts.{ready-name}
 use Rattle.ref_terms.specs.ending.Fits.{FitsHead, before, Fits, fits-ready}
 use mathlib.Core.Path.{fun_ext}
 
+-- what may stand before more arguments may stand before fewer
 abbrev pub Downward : (ℕ → ℕ → Type 0) → Type 0
 Downward P = (v j i : ℕ) → i ≤ j → P v j → P v i
 
@@ -112,6 +116,7 @@ fits-lam P d b j w = go (eta b) (eta-some b)
     go None h = w
     go (Some u) h = fits-unren P next u j (fits-less P d (shift u) j (suc (before j)) (before-next j) ((subst (Fits P (before j)) h w).0))
 
+-- a replacement keeps what fits at each head
 abbrev pub FitsThrough : (ℕ → ℕ → Type 0) → (ℕ → ℕ → Type 0) → (Head → Term) → Type 0
 FitsThrough P Q r = (h : Head) (j : ℕ) → FitsHead P j h → Fits Q j (r h)
 
@@ -158,6 +163,7 @@ loose-apply P d (Lam b) a v w = fits-loose P d (apply (Lam b) a) 0 (fits-apply P
 loose-apply P d (At h) a v w = (v, w)
 loose-apply P d (App f b) a v w = (v, w)
 
+-- the variable isn't at the head
 abbrev pub HeadIsNot : ℕ → Term → Type 0
 HeadIsNot y (Lam b) = Unit {0}
 HeadIsNot y (At h) = is_variable y h ≡ false
@@ -243,6 +249,7 @@ fill-renames p (Lam b) w = ap lam (ap (λ r. fill r b) (fun_ext (renames_below p
 fill-renames p (At h) w = refl
 fill-renames p (App f a) w = ap₂ apply (fill-renames p f w.0) (fill-renames p a w.1) ∙ sym (apply-vars p f a) ∙ ap (vars p) (apply_stuck f a w.2)
 
+-- a variable for another
 abbrev pub moved : ℕ → ℕ → ℕ → ℕ
 moved v f w = cond (nat_eq v w) f w
 

@@ -3,45 +3,47 @@ use Rattle.std.proofs.Common.{◌≡◌, ℕ, suc, ◌+◌, ◌≤◌, ◌<◌, 
 use Rattle.std.specs.List.{list_any}
 use Rattle.ref_terms.specs.terms.Term.{Term, Lam, At, App, Head, Con, Int, Str, Name, Bound, Var}
 use Rattle.ref_terms.specs.terms.Occurs.{is_variable, occurs}
-use Rattle.ref_terms.specs.unification.Spine.{args_of, head_of, Mark, mark_of, push_mark, pattern_of}
-use Rattle.ref_terms.specs.unification.Offence.{Verdict, fine, redex, scope, itself, foreign, dropped, or_later, Spine, firm, neat, messy, flex_spine, spine_of, is_foreign, head_verdict, offence, along}
+use Rattle.ref_terms.specs.unification.Spine.{args_of, head_of}
+use Rattle.ref_terms.specs.unification.Pattern.{SpineName, spine_name, add_distinct, pattern_of}
+use Rattle.ref_terms.specs.unification.Offence.{Verdict, fine, redex, scope, itself, foreign, dropped, or_later, Arguments, of_rigid, pattern_spine, other_spine, of_flexible, arguments, is_foreign, head_verdict, offence, along}
 use Rattle.ref_terms.specs.ending.Fits.{FitsHead, Fits}
 use Rattle.ref_terms.specs.ending.Measure.{Downward, Loose, fits-loose, or_none}
 
 -- no variables below the arguments of a pattern spine
-abbrev pub IsMark : Term → Type 0
-IsMark t = (v : ℕ) → occurs v t ≡ false
+abbrev pub IsSpineName : Term → Type 0
+IsSpineName t = (v : ℕ) → occurs v t ≡ false
 
-abbrev pub AllMarks : List Term → Type 0
-AllMarks [] = Unit {0}
-AllMarks (t ∷ ts) = IsMark t × AllMarks ts
+-- arguments that are names
+abbrev pub AllSpineNames : List Term → Type 0
+AllSpineNames [] = Unit {0}
+AllSpineNames (t ∷ ts) = IsSpineName t × AllSpineNames ts
 
-mark-is : (t : Term) (k : Mark) → mark_of t ≡ Some k → IsMark t
-mark-is (At (Name n)) k e v = refl
-mark-is (At (Bound n)) k e v = refl
-mark-is (At (Con n)) k e v = refl
-mark-is (At (Int n)) k e v = refl
-mark-is (At (Str n)) k e v = refl
-mark-is (At (Var n)) k e v = absurd (let z : None ≡ Some k = e in cc)
-mark-is (Lam b) k e v = absurd (let z : None ≡ Some k = e in cc)
-mark-is (App f a) k e v = absurd (let z : None ≡ Some k = e in cc)
+spine-name-is : (t : Term) (k : SpineName) → spine_name t ≡ Some k → IsSpineName t
+spine-name-is (At (Name n)) k e v = refl
+spine-name-is (At (Bound n)) k e v = refl
+spine-name-is (At (Con n)) k e v = refl
+spine-name-is (At (Int n)) k e v = refl
+spine-name-is (At (Str n)) k e v = refl
+spine-name-is (At (Var n)) k e v = absurd (let z : None ≡ Some k = e in cc)
+spine-name-is (Lam b) k e v = absurd (let z : None ≡ Some k = e in cc)
+spine-name-is (App f a) k e v = absurd (let z : None ≡ Some k = e in cc)
 
-pub pattern-marks : (xs : List Term) (ks : List Mark) → pattern_of xs ≡ Some ks → AllMarks xs
-pattern-marks [] ks e = tt
-pattern-marks (t ∷ ts) ks e = go (mark_of t) refl (pattern_of ts) refl (λ q d. pattern-marks ts q d) e
+pub pattern-names : (xs : List Term) (ks : List SpineName) → pattern_of xs ≡ Some ks → AllSpineNames xs
+pattern-names [] ks e = tt
+pattern-names (t ∷ ts) ks e = go (spine_name t) refl (pattern_of ts) refl (λ q d. pattern-names ts q d) e
   where
-    go : (k : Option Mark) → mark_of t ≡ k → (q : Option (List Mark)) → pattern_of ts ≡ q → ((q : List Mark) → pattern_of ts ≡ Some q → AllMarks ts) → push_mark k q ≡ Some ks → IsMark t × AllMarks ts
-    go (Some k) d (Some q) c i e = (mark-is t k d, i q c)
+    go : (k : Option SpineName) → spine_name t ≡ k → (q : Option (List SpineName)) → pattern_of ts ≡ q → ((q : List SpineName) → pattern_of ts ≡ Some q → AllSpineNames ts) → add_distinct k q ≡ Some ks → IsSpineName t × AllSpineNames ts
+    go (Some k) d (Some q) c i e = (spine-name-is t k d, i q c)
     go (Some k) d None c i e = absurd (let z : None ≡ Some ks = e in cc)
     go None d q c i e = absurd (let z : None ≡ Some ks = e in cc)
 
-pub marks-front : (xs ys : List Term) → AllMarks (xs ++ ys) → AllMarks xs
-marks-front [] ys w = tt
-marks-front (x ∷ xs) ys w = (w.0, marks-front xs ys w.1)
+pub names-front : (xs ys : List Term) → AllSpineNames (xs ++ ys) → AllSpineNames xs
+names-front [] ys w = tt
+names-front (x ∷ xs) ys w = (w.0, names-front xs ys w.1)
 
-pub marks-last : (xs : List Term) (a : Term) → AllMarks (xs ++ a ∷ []) → IsMark a
-marks-last [] a w = w.0
-marks-last (x ∷ xs) a w = marks-last xs a w.1
+pub names-last : (xs : List Term) (a : Term) → AllSpineNames (xs ++ a ∷ []) → IsSpineName a
+names-last [] a w = w.0
+names-last (x ∷ xs) a w = names-last xs a w.1
 
 pub fits-head : (P : ℕ → ℕ → Type 0) (t : Term) (j v : ℕ) → head_of t ≡ Some (Var v) → Fits P j t → P v (length (args_of t) + j)
 fits-head P (Lam b) j v e w = absurd (let z : None ≡ Some (Var v) = e in cc)
@@ -103,18 +105,18 @@ module _ (P : ℕ → ℕ → Type 0) (down : Downward P) (m x : ℕ) (ns : List
   told-head l _ = refl
 
   -- what is known of an application, or of a front of it, by how its arguments are looked at
-  abbrev pub Knows : Spine → Term → Type 0
-  Knows firm t = Loose P t
-  Knows messy t = Loose P t
-  Knows (neat v n) t = (head_of t ≡ Some (Var v)) × P v n × (nat_lt v m ≡ false) × (length (args_of t) ≤ n) × AllMarks (args_of t)
+  abbrev pub Knows : Arguments → Term → Type 0
+  Knows of_rigid t = Loose P t
+  Knows other_spine t = Loose P t
+  Knows (pattern_spine v n) t = (head_of t ≡ Some (Var v)) × P v n × (nat_lt v m ≡ false) × (length (args_of t) ≤ n) × AllSpineNames (args_of t)
 
-  knows-front : (k : Spine) (f a : Term) → Knows k (App f a) → Knows k f
-  knows-front firm f a w = w.0
-  knows-front messy f a w = w.0
-  knows-front (neat v n) f a w =
+  knows-front : (k : Arguments) (f a : Term) → Knows k (App f a) → Knows k f
+  knows-front of_rigid f a w = w.0
+  knows-front other_spine f a w = w.0
+  knows-front (pattern_spine v n) f a w =
       let e : length (args_of f ++ a ∷ []) ≡ length (args_of f) + 1 = simp length-append in
       let q : length (args_of f ++ a ∷ []) ≤ n = w.3 in
-      (w.0, w.1, w.2, omega arith, marks-front (args_of f) (a ∷ []) w.4)
+      (w.0, w.1, w.2, omega arith, names-front (args_of f) (a ∷ []) w.4)
 
   head-absent : (f : Term) (v : ℕ) → head_of f ≡ Some (Var v) → occurs x f ≡ false → nat_eq x v ≡ false
   head-absent (Lam b) v e o = absurd (let z : None ≡ Some (Var v) = e in cc)
@@ -125,12 +127,12 @@ module _ (P : ℕ → ℕ → Type 0) (down : Downward P) (m x : ℕ) (ns : List
       left false b e = refl
       left true b e = e
 
-  told-app : (l : Bool) (k : Spine) (f a : Term) → Knows k (App f a) → Told l (occurs x f ≡ false) (along m x ns l k f)
+  told-app : (l : Bool) (k : Arguments) (f a : Term) → Knows k (App f a) → Told l (occurs x f ≡ false) (along m x ns l k f)
       → ((l : Bool) → Fits P 0 a → Told l (occurs x a ≡ false) (offence m x ns l a))
       → Told l (occurs x (App f a) ≡ false) (along m x ns l k (App f a))
-  told-app l firm f a w i j = told-both l (occurs x f ≡ false) (occurs x a ≡ false) (occurs x (App f a) ≡ false) (along m x ns l firm f) (offence m x ns l a) i (λ d. j l w.1) (λ d e. or_none _ _ d e)
-  told-app l messy f a w i j = told-both l (occurs x f ≡ false) (occurs x a ≡ false) (occurs x (App f a) ≡ false) (along m x ns l messy f) (offence m x ns true a) i (λ d. told-loose l (occurs x a ≡ false) (offence m x ns true a) (j true w.1)) (λ d e. or_none _ _ d e)
-  told-app l (neat v n) f a w i j = told-both l (occurs x f ≡ false) (occurs x a ≡ false) (occurs x (App f a) ≡ false) (along m x ns l (neat v n) f) (cond (is_foreign ns a) (cond l scope (dropped v (length (args_of f)) n)) fine) i (λ d. go l (is_foreign ns a) d) (λ d e. or_none _ _ d e)
+  told-app l of_rigid f a w i j = told-both l (occurs x f ≡ false) (occurs x a ≡ false) (occurs x (App f a) ≡ false) (along m x ns l of_rigid f) (offence m x ns l a) i (λ d. j l w.1) (λ d e. or_none _ _ d e)
+  told-app l other_spine f a w i j = told-both l (occurs x f ≡ false) (occurs x a ≡ false) (occurs x (App f a) ≡ false) (along m x ns l other_spine f) (offence m x ns true a) i (λ d. told-loose l (occurs x a ≡ false) (offence m x ns true a) (j true w.1)) (λ d e. or_none _ _ d e)
+  told-app l (pattern_spine v n) f a w i j = told-both l (occurs x f ≡ false) (occurs x a ≡ false) (occurs x (App f a) ≡ false) (along m x ns l (pattern_spine v n) f) (cond (is_foreign ns a) (cond l scope (dropped v (length (args_of f)) n)) fine) i (λ d. go l (is_foreign ns a) d) (λ d e. or_none _ _ d e)
     where
       position : length (args_of f) < n
       position = let e : length (args_of f ++ a ∷ []) ≡ length (args_of f) + 1 = simp length-append in let q : length (args_of f ++ a ∷ []) ≤ n = w.3 in omega arith
@@ -138,40 +140,41 @@ module _ (P : ℕ → ℕ → Type 0) (down : Downward P) (m x : ℕ) (ns : List
       go : (l b : Bool) → occurs x f ≡ false → Told l (occurs x a ≡ false) (cond b (cond l scope (dropped v (length (args_of f)) n)) fine)
       go true true d = tt
       go false true d = (w.1, position, w.2, head-absent f v w.0 d, refl)
-      go l false d = marks-last (args_of f) a w.4 x
+      go l false d = names-last (args_of f) a w.4 x
 
-  spine-knows : (f a : Term) → Fits P 0 (App f a) → (o : Option Head) → head_of f ≡ o → Knows (spine_of m o (args_of f ++ a ∷ [])) (App f a)
+  spine-knows : (f a : Term) → Fits P 0 (App f a) → (o : Option Head) → head_of f ≡ o → Knows (arguments m o (args_of f ++ a ∷ [])) (App f a)
   spine-knows f a w (Some (Var v)) e = go (nat_lt v m) refl
     where
       all : Loose P (App f a)
       all = fits-loose P down (App f a) 0 w
 
-      deep : (q : Option (List Mark)) → pattern_of (args_of f ++ a ∷ []) ≡ q → nat_lt v m ≡ false → Knows (flex_spine v (args_of f ++ a ∷ []) q) (App f a)
+      deep : (q : Option (List SpineName)) → pattern_of (args_of f ++ a ∷ []) ≡ q → nat_lt v m ≡ false → Knows (of_flexible v (args_of f ++ a ∷ []) q) (App f a)
       deep None d k = all
       deep (Some ks) d k =
           let c : P v (length (args_of f ++ a ∷ []) + 0) = fits-head P (App f a) 0 v e w in
           let z : length (args_of f ++ a ∷ []) + 0 ≡ length (args_of f ++ a ∷ []) = omega arith in
-          (e, subst (P v) z c, k, omega arith, pattern-marks (args_of f ++ a ∷ []) ks d)
+          (e, subst (P v) z c, k, omega arith, pattern-names (args_of f ++ a ∷ []) ks d)
 
-      go : (b : Bool) → nat_lt v m ≡ b → Knows (cond b firm (flex_spine v (args_of f ++ a ∷ []) (pattern_of (args_of f ++ a ∷ [])))) (App f a)
+      go : (b : Bool) → nat_lt v m ≡ b → Knows (cond b of_rigid (of_flexible v (args_of f ++ a ∷ []) (pattern_of (args_of f ++ a ∷ [])))) (App f a)
       go true d = all
       go false d = deep (pattern_of (args_of f ++ a ∷ [])) refl d
   spine-knows f a w (Some (Con c)) e = fits-loose P down (App f a) 0 w
   spine-knows f a w (Some _) e = fits-loose P down (App f a) 0 w
   spine-knows f a w None e = fits-loose P down (App f a) 0 w
 
+  -- both looks at a term
   abbrev pub ToldOf : Term → Type 0
-  ToldOf t = ((l : Bool) → Fits P 0 t → Told l (occurs x t ≡ false) (offence m x ns l t)) × ((l : Bool) (k : Spine) → Knows k t → Told l (occurs x t ≡ false) (along m x ns l k t))
+  ToldOf t = ((l : Bool) → Fits P 0 t → Told l (occurs x t ≡ false) (offence m x ns l t)) × ((l : Bool) (k : Arguments) → Knows k t → Told l (occurs x t ≡ false) (along m x ns l k t))
 
   pub told : (t : Term) → ToldOf t
   told (Lam b) = (λ l w. (told b).0 l w, λ l k w. tt)
   told (At h) = (λ l w. told-head l h, λ l k w. told-head l h)
   told (App f a) = (
-    λ l w. let k = spine-knows f a w (head_of f) refl in told-app l (spine_of m (head_of f) (args_of f ++ a ∷ [])) f a k ((told f).1 l (spine_of m (head_of f) (args_of f ++ a ∷ [])) (knows-front (spine_of m (head_of f) (args_of f ++ a ∷ [])) f a k)) (told a).0,
+    λ l w. let k = spine-knows f a w (head_of f) refl in told-app l (arguments m (head_of f) (args_of f ++ a ∷ [])) f a k ((told f).1 l (arguments m (head_of f) (args_of f ++ a ∷ [])) (knows-front (arguments m (head_of f) (args_of f ++ a ∷ [])) f a k)) (told a).0,
     λ l k w. told-app l k f a w ((told f).1 l k (knows-front k f a w)) (told a).0,
   )
 
-  pub told-along : (t : Term) (l : Bool) (k : Spine) → Knows k t → Told l (occurs x t ≡ false) (along m x ns l k t)
+  pub told-along : (t : Term) (l : Bool) (k : Arguments) → Knows k t → Told l (occurs x t ≡ false) (along m x ns l k t)
   told-along t = (told t).1
 
   -- nothing is dropped below a spine that is no pattern
@@ -212,7 +215,7 @@ module _ (P : ℕ → ℕ → Type 0) (down : Downward P) (m x : ℕ) (ns : List
   head-keeps l (Con c) = tt
   head-keeps l _ = tt
 
-  pub messy-keeps : (t : Term) (l : Bool) → Loose P t → KeepsAll (along m x ns l messy t)
-  messy-keeps (Lam b) l w = tt
-  messy-keeps (At h) l w = head-keeps l h
-  messy-keeps (App f a) l w = keeps-later (along m x ns l messy f) (offence m x ns true a) (messy-keeps f l w.0) (told-keeps (occurs x a ≡ false) (offence m x ns true a) ((told a).0 true w.1))
+  pub other-keeps : (t : Term) (l : Bool) → Loose P t → KeepsAll (along m x ns l other_spine t)
+  other-keeps (Lam b) l w = tt
+  other-keeps (At h) l w = head-keeps l h
+  other-keeps (App f a) l w = keeps-later (along m x ns l other_spine f) (offence m x ns true a) (other-keeps f l w.0) (told-keeps (occurs x a ≡ false) (offence m x ns true a) ((told a).0 true w.1))

@@ -2,13 +2,16 @@
 use Rattle.std.proofs.Common.{◌≡◌, ℕ, suc, ◌+◌, ◌-◌, ◌≤◌, ◌<◌, Bool, true, false, cond, ◌||◌, nat_eq, refl, sym, ◌∙◌, subst, List, [], ◌∷◌, ◌++◌, map, length, arith, ◌⊎◌, inl, inr, eqb-true}
 use Rattle.ref_terms.specs.terms.Term.{Term, At, Var}
 use Rattle.ref_terms.specs.terms.Built.{IsBuilt}
-use Rattle.ref_terms.specs.terms.Occurs.{is_variable, only, inst, occurs}
-use Rattle.ref_terms.specs.lemmas.FillLemmas.{AllBuilt, built-fill}
+use Rattle.ref_terms.specs.terms.Occurs.{is_variable, occurs}
+use Rattle.ref_terms.specs.terms.Instance.{only, inst}
+use Rattle.ref_terms.specs.lemmas.FillLemmas.{built-fill}
 use Rattle.ref_terms.specs.unification.Closing.{close_all, keeping}
-use Rattle.ref_terms.specs.unification.Unify.{Equation, Problem, Step, Goes, Ends, inst_equation, bind, bind_fresh}
+use Rattle.ref_terms.specs.unification.Problem.{Equation, Problem, Step, Goes, Ends}
+use Rattle.ref_terms.specs.unification.Bind.{inst_equation, bind, bind_fresh}
 use Rattle.ref_terms.specs.ending.Fits.{Fits}
 use Rattle.ref_terms.specs.ending.Measure.{Downward, fits-inst, fits-any, loose-any, Loose, fits-loose, HeadIsNot, loose-inst, loose-lacks, size, size-renamed}
 use Rattle.ref_terms.specs.ending.Bounds.{mem, without, total, Among, Bounded, among-downward, bounded-downward, eq-self, mem-first, mem-later, mem-without, length-without-mem, total-without-mem, changed, total-changed, less, less-is, fits-close_all, fits-keeping, fits-some-bound}
+use Rattle.ref_terms.specs.laws.TermLaws.{AllBuilt}
 
 -- equations
 abbrev pub AllFit : (ℕ → ℕ → Type 0) → List Equation → Type 0
@@ -21,10 +24,12 @@ pub record Midway (P : ℕ → ℕ → Type 0) (e : Equation) : Type 0 where
   pub left : Loose P e.left
   pub right : Loose P e.right
 
+-- the first equation may be midway, the others fit
 abbrev pub Good : (ℕ → ℕ → Type 0) → List Equation → Type 0
 Good P [] = Unit {0}
 Good P (e ∷ es) = Midway P e × AllFit P es
 
+-- the size of all sides
 abbrev pub sizes : List Equation → ℕ
 sizes [] = 0
 sizes (e ∷ es) = (size e.left + size e.right) + sizes es
@@ -86,6 +91,7 @@ pub record Onward (v a s : ℕ) (q : Problem) : Type 0 where
   pub built : unbuilt ≡ 0 → AreBuilt q.equations
   pub falls : ((length listed < v) ⊎ ((length listed ≤ v) × (room_of bound listed unbuilt < a))) ⊎ ((length listed ≤ v) × (room_of bound listed unbuilt ≤ a) × (sizes q.equations < s))
 
+-- a step that goes on makes one of three numbers smaller
 abbrev pub Moves : (v a s : ℕ) → Step → Type 0
 Moves v a s (Ends c) = Unit {0}
 Moves v a s (Goes q) = Onward v a s q
@@ -98,6 +104,7 @@ fewer : (v a s : ℕ) (q : Problem) (vs : List ℕ) → length vs < v → AllFit
 fewer v a s q vs h w = record { listed = vs; bound = λ x. sizes q.equations; unbuilt = 1; good = all-good (Bounded vs (λ x. sizes q.equations)) (bounded-downward vs (λ x. sizes q.equations)) q.equations (all-some-bound vs (sizes q.equations) q.equations (omega arith) w); built = one_isnt q.equations; falls = inl (inl h) }
 
 module _ (vs : List ℕ) (b : ℕ → ℕ) where
+  -- the bounds before the step
   abbrev pub Here : ℕ → ℕ → Type 0
   Here = Bounded vs b
 
@@ -153,6 +160,7 @@ module _ (vs : List ℕ) (b : ℕ → ℕ) where
 
   -- a variable with n arguments is bound to a fresh one over some of them
   module _ (v n f : ℕ) (ks : List ℕ) (known : mem v vs ≡ true) (enough : n ≤ b v) (some : length ks ≤ n) where
+    -- the bound of the fresh variable
     abbrev pub Lowered : ℕ
     Lowered = b v - (n - length ks)
 
@@ -161,6 +169,7 @@ module _ (vs : List ℕ) (b : ℕ → ℕ) where
 
     -- where the fresh one is not in use
     module _ (new : mem f (without v vs) ≡ false) where
+      -- the bounds after the step
       abbrev pub Then : ℕ → ℕ → Type 0
       Then = Bounded (f ∷ without v vs) (changed b f Lowered)
 

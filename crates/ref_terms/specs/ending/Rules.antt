@@ -3,18 +3,22 @@ use Rattle.std.proofs.Common.{◌≡◌, ℕ, zero, suc, ◌+◌, ◌≤◌, ◌
 use Rattle.ref_terms.specs.terms.Term.{Term, Lam, At, App, Head, Con, Name, Var}
 use Rattle.ref_terms.specs.terms.Apply.{apply}
 use Rattle.ref_terms.specs.terms.Built.{IsBuilt}
-use Rattle.ref_terms.specs.terms.Occurs.{is_variable, occurs}
+use Rattle.ref_terms.specs.terms.Occurs.{is_variable, occurs, has_name}
 use Rattle.ref_terms.specs.lemmas.FillLemmas.{built-apply}
-use Rattle.ref_terms.specs.unification.Spine.{args_of, head_of, apply_all, Shape, Abstraction, Redex, Rigid, Flex, headed, shape, Mark, mark_of, mark_eq, push_mark, pattern_of}
+use Rattle.ref_terms.specs.unification.Spine.{args_of, head_of, apply_all}
+use Rattle.ref_terms.specs.unification.Shape.{Shape, Abstraction, Redex, Rigid, Flex, headed, shape}
+use Rattle.ref_terms.specs.unification.Pattern.{SpineName, spine_name, same_name, add_distinct, pattern_of, names_of}
 use Rattle.std.specs.List.{list_any}
 use Rattle.ref_terms.specs.unification.Closing.{close, close_all, up_from, keeping}
-use Rattle.ref_terms.specs.unification.Offence.{Verdict, fine, redex, scope, itself, foreign, dropped, firm, messy, flex_spine, spine_of, offence, along}
-use Rattle.ref_terms.specs.unification.Unify.{Equation, Problem, Clashed, Faulted, Pattern_fault, Step, Goes, Ends, inst_equation, bind_fresh, agreeing, shared, positions_of, all_but, names_of, same_variable, two_variables, by_verdict, bind_to, flex_flex, head_eq, equations_of, rule}
-use Rattle.ref_terms.specs.unification.Unifier.{has_name}
+use Rattle.ref_terms.specs.unification.Offence.{Verdict, fine, redex, scope, itself, foreign, dropped, of_rigid, other_spine, of_flexible, arguments, offence, along}
+use Rattle.ref_terms.specs.unification.Problem.{Equation, Problem, Clashed, Faulted, Pattern_fault, Step, Goes, Ends}
+use Rattle.ref_terms.specs.unification.Bind.{inst_equation, bind_fresh}
+use Rattle.ref_terms.specs.unification.Positions.{agreeing, shared, positions_of, all_but}
+use Rattle.ref_terms.specs.unification.Rules.{same_variable, two_variables, by_verdict, bind_to, flex_flex, head_eq, equations_of, rule}
 use Rattle.ref_terms.specs.ending.Fits.{FitsHead, Fits}
 use Rattle.ref_terms.specs.ending.Measure.{Downward, fits-apply, Loose, loose-apply, HeadIsNot, size, size-positive, size-opened, size-named}
 use Rattle.ref_terms.specs.ending.Bounds.{mem, eq-self, eq-swap}
-use Rattle.ref_terms.specs.ending.OffenceLemmas.{fits-head, Told, told-along, KeepsAll, messy-keeps}
+use Rattle.ref_terms.specs.ending.OffenceLemmas.{fits-head, Told, told-along, KeepsAll, other-keeps}
 use Rattle.ref_terms.specs.lemmas.NameLemmas.{close-apply, nameless-apply}
 use Rattle.ref_terms.specs.ending.Progress.{AllFit, Midway, sizes, all-good, all-append, AreBuilt, built-append, built-map, sizes-renamed, room_of, Here, here-down, Moves, bound_away, met, kept_rest, kept_first}
 
@@ -24,6 +28,7 @@ Frozen m (Var v) = nat_lt v m ≡ true
 Frozen m (Con c) = Unit {0}
 Frozen m _ = Unit {0}
 
+-- what a shape says of its term
 abbrev pub Shaped : ℕ → Term → Shape → Type 0
 Shaped m t Abstraction = (b : Term) × (t ≡ Lam b)
 Shaped m t Redex = Unit {0}
@@ -78,6 +83,7 @@ equations-fit P n (x ∷ xs) (y ∷ ys) v w = ((v.0, w.0), equations-fit P n xs 
 equations-fit P n [] ys v w = tt
 equations-fit P n (x ∷ xs) [] v w = tt
 
+-- arguments that are built
 abbrev pub ArgsBuilt : List Term → Type 0
 ArgsBuilt [] = Unit {0}
 ArgsBuilt (x ∷ xs) = IsBuilt x × ArgsBuilt xs
@@ -96,6 +102,7 @@ equations-built n (x ∷ xs) (y ∷ ys) v w = ((v.0, w.0), equations-built n xs 
 equations-built n [] ys v w = tt
 equations-built n (x ∷ xs) [] v w = tt
 
+-- the size of all arguments
 abbrev pub arg_sizes : List Term → ℕ
 arg_sizes [] = 0
 arg_sizes (x ∷ xs) = size x + arg_sizes xs
@@ -115,21 +122,21 @@ sizes-equations n [] ys es = omega arith
 sizes-equations n (x ∷ xs) [] es = omega arith
 
 -- positions
-pub pattern-length : (xs : List Term) (ks : List Mark) → pattern_of xs ≡ Some ks → length ks ≡ length xs
+pub pattern-length : (xs : List Term) (ks : List SpineName) → pattern_of xs ≡ Some ks → length ks ≡ length xs
 pattern-length [] ks e = let z : Some [] ≡ Some ks = e in let d : [] ≡ ks = cc in ap length (sym d)
-pattern-length (t ∷ ts) ks e = go (mark_of t) (pattern_of ts) refl (λ q d. pattern-length ts q d) e
+pattern-length (t ∷ ts) ks e = go (spine_name t) (pattern_of ts) refl (λ q d. pattern-length ts q d) e
   where
-    deep : (k : Mark) (q : List Mark) → length q ≡ length ts → (b : Bool) → cond b None (Some (k ∷ q)) ≡ Some ks → length ks ≡ suc (length ts)
+    deep : (k : SpineName) (q : List SpineName) → length q ≡ length ts → (b : Bool) → cond b None (Some (k ∷ q)) ≡ Some ks → length ks ≡ suc (length ts)
     deep k q i true e = absurd (let z : None ≡ Some ks = e in cc)
     deep k q i false e = let z : Some (k ∷ q) ≡ Some ks = e in let d : k ∷ q ≡ ks = cc in ap length (sym d) ∙ ap suc i
 
-    go : (k : Option Mark) (q : Option (List Mark)) → pattern_of ts ≡ q → ((q : List Mark) → pattern_of ts ≡ Some q → length q ≡ length ts) → push_mark k q ≡ Some ks → length ks ≡ suc (length ts)
-    go (Some k) (Some q) c i e = deep k q (i q c) (list_any (mark_eq k) q) e
+    go : (k : Option SpineName) (q : Option (List SpineName)) → pattern_of ts ≡ q → ((q : List SpineName) → pattern_of ts ≡ Some q → length q ≡ length ts) → add_distinct k q ≡ Some ks → length ks ≡ suc (length ts)
+    go (Some k) (Some q) c i e = deep k q (i q c) (list_any (same_name k) q) e
     go (Some k) None c i e = absurd (let z : None ≡ Some ks = e in cc)
     go None q c i e = absurd (let z : None ≡ Some ks = e in cc)
 
-agreeing-length : (i : ℕ) (xs ys : List Mark) → length (agreeing i xs ys) ≤ length xs
-agreeing-length i (a ∷ xs) (c ∷ ys) = go (agreeing-length (suc i) xs ys) (mark_eq a c)
+agreeing-length : (i : ℕ) (xs ys : List SpineName) → length (agreeing i xs ys) ≤ length xs
+agreeing-length i (a ∷ xs) (c ∷ ys) = go (agreeing-length (suc i) xs ys) (same_name a c)
   where
     go : length (agreeing (suc i) xs ys) ≤ length xs → (b : Bool) → length (cond b (i ∷ agreeing (suc i) xs ys) (agreeing (suc i) xs ys)) ≤ suc (length xs)
     go k true = omega arith
@@ -137,8 +144,8 @@ agreeing-length i (a ∷ xs) (c ∷ ys) = go (agreeing-length (suc i) xs ys) (ma
 agreeing-length i [] ys = omega arith
 agreeing-length i (a ∷ xs) [] = omega arith
 
-agreeing-cases : (i : ℕ) (xs ys : List Mark) → length xs ≡ length ys → (length (agreeing i xs ys) < length xs) ⊎ (agreeing i xs ys ≡ up_from i (length xs))
-agreeing-cases i (a ∷ xs) (c ∷ ys) e = go (agreeing-cases (suc i) xs ys (omega arith)) (agreeing-length (suc i) xs ys) (mark_eq a c)
+agreeing-cases : (i : ℕ) (xs ys : List SpineName) → length xs ≡ length ys → (length (agreeing i xs ys) < length xs) ⊎ (agreeing i xs ys ≡ up_from i (length xs))
+agreeing-cases i (a ∷ xs) (c ∷ ys) e = go (agreeing-cases (suc i) xs ys (omega arith)) (agreeing-length (suc i) xs ys) (same_name a c)
   where
     go : (length (agreeing (suc i) xs ys) < length xs) ⊎ (agreeing (suc i) xs ys ≡ up_from (suc i) (length xs)) → length (agreeing (suc i) xs ys) ≤ length xs → (b : Bool)
         → (length (cond b (i ∷ agreeing (suc i) xs ys) (agreeing (suc i) xs ys)) < suc (length xs)) ⊎ (cond b (i ∷ agreeing (suc i) xs ys) (agreeing (suc i) xs ys) ≡ i ∷ up_from (suc i) (length xs))
@@ -192,10 +199,10 @@ TopTold P x t scope = Unit {0}
 TopTold P x t itself = Unit {0}
 TopTold P x t foreign = Unit {0}
 
-frozen-firm : (m : ℕ) (h : Head) (xs : List Term) → Frozen m h → spine_of m (Some h) xs ≡ firm
-frozen-firm m (Var v) xs f = rw f refl
-frozen-firm m (Con c) xs f = refl
-frozen-firm m _ xs f = refl
+frozen-rigid : (m : ℕ) (h : Head) (xs : List Term) → Frozen m h → arguments m (Some h) xs ≡ of_rigid
+frozen-rigid m (Var v) xs f = rw f refl
+frozen-rigid m (Con c) xs f = refl
+frozen-rigid m _ xs f = refl
 
 module _ (P : ℕ → ℕ → Type 0) (down : Downward P) (m x : ℕ) (ns : List ℕ) where
   told-rigid : (t : Term) (h : Head) → head_of t ≡ Some h → Frozen m h → Loose P t → TopTold P x t (offence m x ns false t)
@@ -211,18 +218,18 @@ module _ (P : ℕ → ℕ → Type 0) (down : Downward P) (m x : ℕ) (ns : List
 
       by_cases : (t : Term) (h : Head) → head_of t ≡ Some h → Frozen m h → Loose P t → Told P down m x ns false (occurs x t ≡ false) (offence m x ns false t)
       by_cases (Lam b) h e f w = absurd (let z : None ≡ Some h = e in cc)
-      by_cases (At k) h e f w = told-along P down m x ns (At k) false firm w
+      by_cases (At k) h e f w = told-along P down m x ns (At k) false of_rigid w
       by_cases (App g a) h e f w =
-          let k : spine_of m (head_of g) (args_of g ++ a ∷ []) ≡ firm = ap (λ o. spine_of m o (args_of g ++ a ∷ [])) e ∙ frozen-firm m h (args_of g ++ a ∷ []) f in
-          subst (λ s. Told P down m x ns false (occurs x (App g a) ≡ false) (along m x ns false s (App g a))) (sym k) (told-along P down m x ns (App g a) false firm w)
+          let k : arguments m (head_of g) (args_of g ++ a ∷ []) ≡ of_rigid = ap (λ o. arguments m o (args_of g ++ a ∷ [])) e ∙ frozen-rigid m h (args_of g ++ a ∷ []) f in
+          subst (λ s. Told P down m x ns false (occurs x (App g a) ≡ false) (along m x ns false s (App g a))) (sym k) (told-along P down m x ns (App g a) false of_rigid w)
 
-  told-messy : (t : Term) (v : ℕ) → head_of t ≡ Some (Var v) → nat_lt v m ≡ false → pattern_of (args_of t) ≡ None → Loose P t → TopTold P x t (offence m x ns false t)
-  told-messy (Lam b) v e f q w = absurd (let z : None ≡ Some (Var v) = e in cc)
-  told-messy (At k) v e f q w = absurd (let z : Some [] ≡ None = q in cc)
-  told-messy (App g a) v e f q w = subst (λ s. TopTold P x (App g a) (along m x ns false s (App g a))) (sym k) (pass (along m x ns false messy (App g a)) (told-along P down m x ns (App g a) false messy w) (messy-keeps P down m x ns (App g a) false w))
+  told-other : (t : Term) (v : ℕ) → head_of t ≡ Some (Var v) → nat_lt v m ≡ false → pattern_of (args_of t) ≡ None → Loose P t → TopTold P x t (offence m x ns false t)
+  told-other (Lam b) v e f q w = absurd (let z : None ≡ Some (Var v) = e in cc)
+  told-other (At k) v e f q w = absurd (let z : Some [] ≡ None = q in cc)
+  told-other (App g a) v e f q w = subst (λ s. TopTold P x (App g a) (along m x ns false s (App g a))) (sym k) (pass (along m x ns false other_spine (App g a)) (told-along P down m x ns (App g a) false other_spine w) (other-keeps P down m x ns (App g a) false w))
     where
-      k : spine_of m (head_of g) (args_of g ++ a ∷ []) ≡ messy
-      k = ap (λ o. spine_of m o (args_of g ++ a ∷ [])) e ∙ ap (λ b. cond b firm (flex_spine v (args_of g ++ a ∷ []) (pattern_of (args_of g ++ a ∷ [])))) f ∙ ap (flex_spine v (args_of g ++ a ∷ [])) q
+      k : arguments m (head_of g) (args_of g ++ a ∷ []) ≡ other_spine
+      k = ap (λ o. arguments m o (args_of g ++ a ∷ [])) e ∙ ap (λ b. cond b of_rigid (of_flexible v (args_of g ++ a ∷ []) (pattern_of (args_of g ++ a ∷ [])))) f ∙ ap (of_flexible v (args_of g ++ a ∷ [])) q
 
       pass : (v : Verdict) → Told P down m x ns false (occurs x (App g a) ≡ false) v → KeepsAll P down m x ns v → TopTold P x (App g a) v
       pass fine b c = b
@@ -234,6 +241,7 @@ module _ (P : ℕ → ℕ → Type 0) (down : Downward P) (m x : ℕ) (ns : List
 
 -- a rule, where the first equation is e
 module _ (vs : List ℕ) (b : ℕ → ℕ) (m : ℕ) (e : Equation) (es : List Equation) (p : Problem) (here : Midway (Here vs b) e) (others : AllFit (Here vs b) es) (u : ℕ) (built : u ≡ 0 → AreBuilt (e ∷ es)) where
+  -- what is shown of a rule
   abbrev pub Result : Step → Type 0
   Result = Moves (length vs) (room_of b vs u) (sizes (e ∷ es))
 
@@ -257,31 +265,31 @@ module _ (vs : List ℕ) (b : ℕ → ℕ) (m : ℕ) (e : Equation) (es : List E
   head-away t v y d n = head-is-not t (Var v) y d (eq-swap v y n)
 
   -- on the left, and on the right
-  left-rigid : (v : ℕ) (h : Head) (o : Option (List Mark)) → head_of e.left ≡ Some (Var v) → head_of e.right ≡ Some h → Frozen m h → Result (bind_to m v o e.right e es p)
+  left-rigid : (v : ℕ) (h : Head) (o : Option (List SpineName)) → head_of e.left ≡ Some (Var v) → head_of e.right ≡ Some h → Frozen m h → Result (bind_to m v o e.right e es p)
   left-rigid v h None d c f = tt
   left-rigid v h (Some ks) d c f = by_verdict-moves v (names_of ks) e.right (flex-member e.left v d here.left) here.right (λ y n k. (head-away e.left v y d n, k)) (offence m v (names_of ks) false e.right) (told-rigid (Here vs b) (here-down vs b) m v (names_of ks) e.right h c f here.right)
 
-  right-rigid : (v : ℕ) (h : Head) (o : Option (List Mark)) → head_of e.right ≡ Some (Var v) → head_of e.left ≡ Some h → Frozen m h → Result (bind_to m v o e.left e es p)
+  right-rigid : (v : ℕ) (h : Head) (o : Option (List SpineName)) → head_of e.right ≡ Some (Var v) → head_of e.left ≡ Some h → Frozen m h → Result (bind_to m v o e.left e es p)
   right-rigid v h None d c f = tt
   right-rigid v h (Some ks) d c f = by_verdict-moves v (names_of ks) e.left (flex-member e.right v d here.right) here.left (λ y n k. (k, head-away e.right v y d n)) (offence m v (names_of ks) false e.left) (told-rigid (Here vs b) (here-down vs b) m v (names_of ks) e.left h c f here.left)
 
-  left-messy : (v w : ℕ) (o : Option (List Mark)) → head_of e.left ≡ Some (Var v) → head_of e.right ≡ Some (Var w) → nat_lt w m ≡ false → pattern_of (args_of e.right) ≡ None → Result (bind_to m v o e.right e es p)
-  left-messy v w None d c f q = tt
-  left-messy v w (Some ks) d c f q = by_verdict-moves v (names_of ks) e.right (flex-member e.left v d here.left) here.right (λ y n k. (head-away e.left v y d n, k)) (offence m v (names_of ks) false e.right) (told-messy (Here vs b) (here-down vs b) m v (names_of ks) e.right w c f q here.right)
+  left-other : (v w : ℕ) (o : Option (List SpineName)) → head_of e.left ≡ Some (Var v) → head_of e.right ≡ Some (Var w) → nat_lt w m ≡ false → pattern_of (args_of e.right) ≡ None → Result (bind_to m v o e.right e es p)
+  left-other v w None d c f q = tt
+  left-other v w (Some ks) d c f q = by_verdict-moves v (names_of ks) e.right (flex-member e.left v d here.left) here.right (λ y n k. (head-away e.left v y d n, k)) (offence m v (names_of ks) false e.right) (told-other (Here vs b) (here-down vs b) m v (names_of ks) e.right w c f q here.right)
 
-  right-messy : (v w : ℕ) (o : Option (List Mark)) → head_of e.right ≡ Some (Var v) → head_of e.left ≡ Some (Var w) → nat_lt w m ≡ false → pattern_of (args_of e.left) ≡ None → Result (bind_to m v o e.left e es p)
-  right-messy v w None d c f q = tt
-  right-messy v w (Some ks) d c f q = by_verdict-moves v (names_of ks) e.left (flex-member e.right v d here.right) here.left (λ y n k. (k, head-away e.right v y d n)) (offence m v (names_of ks) false e.left) (told-messy (Here vs b) (here-down vs b) m v (names_of ks) e.left w c f q here.left)
+  right-other : (v w : ℕ) (o : Option (List SpineName)) → head_of e.right ≡ Some (Var v) → head_of e.left ≡ Some (Var w) → nat_lt w m ≡ false → pattern_of (args_of e.left) ≡ None → Result (bind_to m v o e.left e es p)
+  right-other v w None d c f q = tt
+  right-other v w (Some ks) d c f q = by_verdict-moves v (names_of ks) e.left (flex-member e.right v d here.right) here.left (λ y n k. (k, head-away e.right v y d n)) (offence m v (names_of ks) false e.left) (told-other (Here vs b) (here-down vs b) m v (names_of ks) e.left w c f q here.left)
 
   -- one variable on both sides
-  enough : (v w : ℕ) (ks ls : List Mark) → head_of e.left ≡ Some (Var v) → head_of e.right ≡ Some (Var w) → nat_eq v w ≡ true → pattern_of (args_of e.left) ≡ Some ks → pattern_of (args_of e.right) ≡ Some ls → length ks ≡ length ls → length ks ≤ b v
+  enough : (v w : ℕ) (ks ls : List SpineName) → head_of e.left ≡ Some (Var v) → head_of e.right ≡ Some (Var w) → nat_eq v w ≡ true → pattern_of (args_of e.left) ≡ Some ks → pattern_of (args_of e.right) ≡ Some ls → length ks ≡ length ls → length ks ≤ b v
   enough v w ks ls d c s j k l = go here.one
     where
       go : Fits (Here vs b) 0 e.left ⊎ Fits (Here vs b) 0 e.right → length ks ≤ b v
       go (inl f) = let x : length (args_of e.left) + 0 ≤ b v = (fits-head (Here vs b) e.left 0 v d f).1 in let y : length ks ≡ length (args_of e.left) = pattern-length (args_of e.left) ks j in omega arith
       go (inr f) = let x : length (args_of e.right) + 0 ≤ b w = (fits-head (Here vs b) e.right 0 w c f).1 in let y : length ls ≡ length (args_of e.right) = pattern-length (args_of e.right) ls k in let same : v ≡ w = eqb-true _ _ s in let z : b v ≡ b w = ap b same in omega arith
 
-  same-moves : (v : ℕ) (ks ls : List Mark) → mem v vs ≡ true → (length ks ≡ length ls → length ks ≤ b v) → Result (same_variable v ks ls es p)
+  same-moves : (v : ℕ) (ks ls : List SpineName) → mem v vs ≡ true → (length ks ≡ length ls → length ks ≤ b v) → Result (same_variable v ks ls es p)
   same-moves v ks ls k n = go (nat_eq (length ks) (length ls)) refl
     where
       f : ℕ
@@ -308,7 +316,7 @@ module _ (vs : List ℕ) (b : ℕ → ℕ) (m : ℕ) (e : Equation) (es : List E
       go true d = let l : length ks ≡ length ls = eqb-true _ _ d in kept_rest vs b v (length ks) p.next_var (agreeing 0 ks ls) k (n l) least u (sizes (e ∷ es)) p es others (small (agreeing-cases 0 ks ls l))
       go false d = tt
 
-  flex-moves : (v w : ℕ) (i o : Option (List Mark)) → head_of e.left ≡ Some (Var v) → head_of e.right ≡ Some (Var w) → nat_lt v m ≡ false → nat_lt w m ≡ false → pattern_of (args_of e.left) ≡ i → pattern_of (args_of e.right) ≡ o → Result (flex_flex m v w i o e es p)
+  flex-moves : (v w : ℕ) (i o : Option (List SpineName)) → head_of e.left ≡ Some (Var v) → head_of e.right ≡ Some (Var w) → nat_lt v m ≡ false → nat_lt w m ≡ false → pattern_of (args_of e.left) ≡ i → pattern_of (args_of e.right) ≡ o → Result (flex_flex m v w i o e es p)
   flex-moves v w (Some ks) (Some ls) d c f g j k = go (nat_eq v w) refl
     where
       go : (r : Bool) → nat_eq v w ≡ r → Result (cond r (same_variable v ks ls es p) (two_variables v w ks ls es p))
@@ -318,12 +326,12 @@ module _ (vs : List ℕ) (b : ℕ → ℕ) (m : ℕ) (e : Equation) (es : List E
     where
       go : (r : Bool) → Result (cond r (Ends (Faulted Pattern_fault)) (bind_to m v (Some ks) e.right e es p))
       go true = tt
-      go false = left-messy v w (Some ks) d c g k
+      go false = left-other v w (Some ks) d c g k
   flex-moves v w None o d c f g j k = go (nat_eq v w)
     where
       go : (r : Bool) → Result (cond r (Ends (Faulted Pattern_fault)) (bind_to m w o e.left e es p))
       go true = tt
-      go false = right-messy w v o c d f j
+      go false = right-other w v o c d f j
 
   -- two rigid heads
   rigid-moves : (h k : Head) → head_of e.left ≡ Some h → head_of e.right ≡ Some k → (r : Bool) → Result (cond r (Goes (record p { equations = equations_of e.names (args_of e.left) (args_of e.right) ++ es })) (Ends (Clashed false)))
@@ -351,6 +359,7 @@ module _ (vs : List ℕ) (b : ℕ → ℕ) (m : ℕ) (e : Equation) (es : List E
   opened-size : (t c : Term) → t ≡ Lam c → size (apply t (At (Name e.names))) + 2 ≤ size t
   opened-size t c d = let x : size (apply (Lam c) (At (Name e.names))) ≡ size c = size-opened c e.names in let y : size (apply t (At (Name e.names))) ≡ size (apply (Lam c) (At (Name e.names))) = ap (λ z. size (apply z (At (Name e.names)))) d in let z : size t ≡ suc (suc (size c)) = ap size d in omega arith
 
+  -- both sides applied to a fresh name
   abbrev Opened : Step
   Opened = Goes (record p { equations = record { names = suc e.names; left = apply e.left (At (Name e.names)); right = apply e.right (At (Name e.names)) } ∷ es })
 

@@ -1,6 +1,8 @@
 -- What the laws on the answers of unification say.
 use Rattle.std.specs.Prelude.{◌≡◌, ℕ, suc}
-use Rattle.ref_terms.specs.unification.Unify.{Problem, Answer, Goes, Ends, step, Unifies}
+use Rattle.ref_terms.specs.unification.Problem.{Problem, Answer, Goes, Ends}
+use Rattle.ref_terms.specs.unification.Rules.{step}
+use Rattle.ref_terms.specs.unification.Run.{Unifies}
 use Rattle.ref_terms.specs.unification.Unification.{unify, steps_of}
 
 -- a run has one answer

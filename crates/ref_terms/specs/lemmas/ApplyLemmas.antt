@@ -1,12 +1,14 @@
 -- Application and abstraction under substitution.
 use Rattle.std.proofs.Common.{◌≡◌, ℕ, zero, suc, Bool, true, false, cond, refl, sym, ap, ◌∙◌}
 use mathlib.Core.Path.{fun_ext}
-use Rattle.ref_terms.specs.terms.Term.{Term, Lam, At, App, Con, Bound, next, under, sub, first}
+use Rattle.ref_terms.specs.terms.Term.{Term, Lam, At, App, Con, Bound}
+use Rattle.ref_terms.specs.terms.Index.{next, under, sub, first}
 use Rattle.ref_terms.specs.terms.Ready.{ready}
 use Rattle.ref_terms.specs.terms.Apply.{apply}
 use Rattle.ref_terms.specs.lemmas.TermLemmas.{sub-ren, sub-sub, sub_id}
 use Rattle.ref_terms.specs.lemmas.ReadyFacts.{ready-bound, ready-lam, ready-sub, ready-ren}
 
+-- the terms for indices are ready
 abbrev pub AllReady : (ℕ → Term) → Type 0
 AllReady s = (i : ℕ) → ready (s i) ≡ true
 

@@ -1,15 +1,18 @@
 -- Replacing heads twice is replacing them once.
 use Rattle.std.proofs.Common.{◌≡◌, ℕ, zero, suc, Bool, true, false, cond, refl, sym, ap, ap₂, ◌∙◌, Option, Some, None, IfSome}
 use mathlib.Core.Path.{fun_ext}
-use Rattle.ref_terms.specs.terms.Term.{Term, Lam, At, App, Head, Con, Int, Str, Name, Bound, Var, ren, ren_head, up, next, shift, under, sub, sub_head, first, eta, lam, lam_of}
+use Rattle.ref_terms.specs.terms.Term.{Term, Lam, At, App, Head, Con, Int, Str, Name, Bound, Var}
+use Rattle.ref_terms.specs.terms.Index.{ren, ren_head, up, next, shift, under, sub, sub_head, first}
+use Rattle.ref_terms.specs.terms.Eta.{eta, lam, lam_of}
 use Rattle.ref_terms.specs.terms.Ready.{ready}
 use Rattle.ref_terms.specs.terms.Apply.{apply, below, fill}
 use Rattle.ref_terms.specs.terms.Built.{IsBuilt}
 use Rattle.ref_terms.specs.lemmas.TermLemmas.{under_up, ren-ren, sub-ren, ren-sub, ren_sub, sub_id}
 use Rattle.ref_terms.specs.lemmas.EtaLemmas.{sub-lam, eta-some, lower-shift}
-use Rattle.ref_terms.specs.lemmas.ReadyFacts.{ready-bound, ready-ren, ready-fill, KeepsReady}
+use Rattle.ref_terms.specs.lemmas.ReadyFacts.{ready-bound, ready-ren, ready-fill}
 use Rattle.ref_terms.specs.lemmas.ApplyLemmas.{AllReady, ready-under, ready-first, sub-apply}
-use Rattle.ref_terms.specs.lemmas.FillLemmas.{AllBuilt, built-fill, apply-lam, below-built}
+use Rattle.ref_terms.specs.lemmas.FillLemmas.{built-fill, apply-lam, below-built}
+use Rattle.ref_terms.specs.laws.TermLaws.{KeepsReady, AllBuilt}
 
 -- replacing heads after a renaming
 pub ren-apply : (g : ℕ → ℕ) (f a : Term) → ren g (apply f a) ≡ apply (ren g f) (ren g a)
@@ -60,6 +63,7 @@ fill-lam r w b = lam_filled r b (eta b) w refl (eta-some b)
 
 -- replacing heads in a body that was opened with ready terms
 module _ where
+  -- replacing indices by s and then heads by r is replacing heads by q and then indices by z, at each head
   abbrev pub Fits : (r q : Head → Term) (s z : ℕ → Term) → Type 0
   Fits r q s z = (h : Head) → fill r (sub_head s h) ≡ sub z (q h)
 

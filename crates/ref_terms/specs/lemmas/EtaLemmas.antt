@@ -1,7 +1,9 @@
 -- Lowering and η.
 use Rattle.std.proofs.Common.{◌≡◌, ℕ, zero, suc, refl, sym, ap, ap₂, ◌∙◌, Option, Some, None, option_map, IfSome}
 use mathlib.Core.Path.{fun_ext}
-use Rattle.ref_terms.specs.terms.Term.{Term, Lam, At, App, Con, Bound, ren, up, next, shift, under, sub, up_partial, both, partial, previous, lower, on_index, eta, lam, lam_of}
+use Rattle.ref_terms.specs.terms.Term.{Term, Lam, At, App, Con, Bound}
+use Rattle.ref_terms.specs.terms.Index.{ren, up, next, shift, under, sub}
+use Rattle.ref_terms.specs.terms.Eta.{up_partial, both, partial, previous, lower, on_index, eta, lam, lam_of}
 
 option_map-option_map : {A B C : Type 0} (g : B → C) (f : A → B) (o : Option A) → option_map g (option_map f o) ≡ option_map (λ x. g (f x)) o
 option_map-option_map g f None = refl

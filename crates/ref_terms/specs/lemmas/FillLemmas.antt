@@ -1,17 +1,17 @@
 -- Replacing heads: what is built stays built, and two replacements compose.
 use Rattle.std.proofs.Common.{◌≡◌, ℕ, zero, suc, Bool, true, false, cond, refl, sym, ap, ◌∙◌, subst, Option, Some, None, option_map, IfSome}
 use mathlib.Core.Path.{fun_ext}
-use Rattle.ref_terms.specs.terms.Term.{Term, Lam, At, App, Head, Con, Int, Str, Name, Bound, Var, ren, up, next, shift, under, sub, first, eta, lam, lam_of}
+use Rattle.ref_terms.specs.terms.Term.{Term, Lam, At, App, Head, Con, Int, Str, Name, Bound, Var}
+use Rattle.ref_terms.specs.terms.Index.{ren, up, next, shift, under, sub, first}
+use Rattle.ref_terms.specs.terms.Eta.{eta, lam, lam_of}
 use Rattle.ref_terms.specs.terms.Ready.{ready}
 use Rattle.ref_terms.specs.terms.Apply.{apply, below, fill}
 use Rattle.ref_terms.specs.terms.Built.{IsBuilt, IsStuck}
+use Rattle.ref_terms.specs.laws.TermLaws.{AllBuilt}
 use Rattle.ref_terms.specs.lemmas.TermLemmas.{under_up, sub-ren, ren_sub, sub_id}
 use Rattle.ref_terms.specs.lemmas.EtaLemmas.{eta-sub, eta-some}
 use Rattle.ref_terms.specs.lemmas.ReadyFacts.{ready-bound, ready-lam, ready-sub, ready-ren}
 use Rattle.ref_terms.specs.lemmas.ApplyLemmas.{AllReady, ready-under, ready-first}
-
-abbrev pub AllBuilt : (Head → Term) → Type 0
-AllBuilt r = (h : Head) → IsBuilt (r h)
 
 -- substituting ready terms that are built
 stuck_ready : (f a : Term) → ready f ≡ true → IsStuck f a

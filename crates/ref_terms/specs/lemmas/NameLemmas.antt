@@ -1,17 +1,22 @@
 -- A fresh name tells two terms apart.
 use Rattle.std.proofs.Common.{◌≡◌, ℕ, zero, suc, Bool, true, false, cond, ◌||◌, nat_eq, refl, sym, ap, ap₂, ◌∙◌, arith, Option, Some, None, IfSome}
-use Rattle.ref_terms.specs.terms.Term.{Term, Lam, At, App, Head, Con, Int, Str, Name, Bound, Var, ren, ren_head, next, shift, up, under, sub, first, eta, lam, lam_of}
+use Rattle.ref_terms.specs.terms.Term.{Term, Lam, At, App, Head, Con, Int, Str, Name, Bound, Var}
+use Rattle.ref_terms.specs.terms.Index.{ren, ren_head, next, shift, up, under, sub, first}
+use Rattle.ref_terms.specs.terms.Eta.{eta, lam, lam_of}
 use Rattle.ref_terms.specs.lemmas.EtaLemmas.{eta-some}
 use Rattle.ref_terms.specs.terms.Ready.{ready}
-use Rattle.ref_terms.specs.terms.Apply.{apply, below, fill, valued, inst_all}
+use Rattle.ref_terms.specs.terms.Apply.{apply, below, fill}
+use Rattle.ref_terms.specs.terms.Instance.{valued, inst_all}
 use Rattle.ref_terms.specs.terms.Built.{IsBuilt}
 use Rattle.ref_terms.specs.lemmas.TermLemmas.{ren_id}
-use Rattle.ref_terms.specs.lemmas.ReadyFacts.{ready-name, ready-bound, ready-var, KeepsReady}
-use Rattle.ref_terms.specs.lemmas.FillLemmas.{AllBuilt, built-fill}
+use Rattle.ref_terms.specs.lemmas.ReadyFacts.{ready-name, ready-bound, ready-var}
+use Rattle.ref_terms.specs.lemmas.FillLemmas.{built-fill}
 use Rattle.ref_terms.specs.lemmas.ComposeLemmas.{fill-apply, fill-ren, lam-apply}
 use Rattle.ref_terms.specs.lemmas.OccursLemmas.{fill_at}
 use Rattle.ref_terms.specs.unification.Closing.{closing, close}
-use Rattle.ref_terms.specs.unification.Unifier.{is_name, has_name, IsSubstitution}
+use Rattle.ref_terms.specs.terms.Occurs.{is_name, has_name}
+use Rattle.ref_terms.specs.unification.Unifier.{IsSubstitution}
+use Rattle.ref_terms.specs.laws.TermLaws.{KeepsReady, AllBuilt}
 
 pub or_left : (a b : Bool) → (a || b) ≡ false → a ≡ false
 or_left false b e = refl
@@ -21,6 +26,7 @@ pub or_right : (a b : Bool) → (a || b) ≡ false → b ≡ false
 or_right false b e = e
 or_right true b e = absurd (let k : true ≡ false = e in cc)
 
+-- both replacements agree at all heads but the name
 abbrev pub AgreeButName : ℕ → (Head → Term) → (Head → Term) → Type 0
 AgreeButName x r q = (h : Head) → is_name x h ≡ false → r h ≡ q h
 

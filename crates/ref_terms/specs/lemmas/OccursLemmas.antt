@@ -1,10 +1,13 @@
 -- A variable that doesn't occur.
 use Rattle.std.proofs.Common.{◌≡◌, ℕ, zero, suc, Bool, true, false, ◌||◌, refl, ap, ap₂, ◌∙◌}
 use mathlib.Core.Path.{fun_ext}
-use Rattle.ref_terms.specs.terms.Term.{Term, Lam, At, App, Head, Con, Int, Str, Name, Bound, Var, shift, lam, lam_of}
+use Rattle.ref_terms.specs.terms.Term.{Term, Lam, At, App, Head, Con, Int, Str, Name, Bound, Var}
+use Rattle.ref_terms.specs.terms.Index.{shift}
+use Rattle.ref_terms.specs.terms.Eta.{lam, lam_of}
 use Rattle.ref_terms.specs.terms.Apply.{apply, below, fill}
 use Rattle.ref_terms.specs.terms.Built.{IsBuilt, IsStuck}
-use Rattle.ref_terms.specs.terms.Occurs.{is_variable, occurs, only, inst}
+use Rattle.ref_terms.specs.terms.Occurs.{is_variable, occurs}
+use Rattle.ref_terms.specs.terms.Instance.{only, inst}
 
 -- rebuilding what is built changes nothing
 below_at : (h : Head) → below (λ k. At k) h ≡ At h

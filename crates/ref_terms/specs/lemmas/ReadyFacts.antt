@@ -1,10 +1,12 @@
 -- The facts on ready terms; nothing else looks into `ready`.
 use Rattle.std.proofs.Common.{◌≡◌, ℕ, true, false, refl, ap, ◌∙◌}
-use Rattle.ref_terms.specs.terms.Term.{Term, Lam, At, App, Head, Con, Name, Bound, Var, ren, sub}
+use Rattle.ref_terms.specs.terms.Term.{Term, Lam, At, App, Head, Con, Name, Bound, Var}
+use Rattle.ref_terms.specs.terms.Index.{ren, sub}
 use Rattle.ref_terms.specs.terms.Ready.{ready}
 use Rattle.ref_terms.specs.terms.Renamed.{vars}
 use Rattle.ref_terms.specs.terms.Apply.{fill}
 use Rattle.ref_terms.specs.laws.ReadyLaws.{IsRigid}
+use Rattle.ref_terms.specs.laws.TermLaws.{KeepsReady}
 use Rattle.ref_terms.specs.lemmas.TermLemmas.{ren_sub}
 
 pub ready-name : (n : ℕ) → ready (At (Name n)) ≡ true
@@ -29,9 +31,6 @@ ready-sub s h (At _) = refl
 ready-sub s h (App f a) = refl
 
 -- replacing heads, where what can be ready stays so
-abbrev pub KeepsReady : (Head → Term) → Type 0
-KeepsReady r = (h : Head) → ready (At h) ≡ true → ready (r h) ≡ true
-
 pub ready-fill : (r : Head → Term) → KeepsReady r → (t : Term) → ready t ≡ true → ready (fill r t) ≡ true
 unfolding ready
 ready-fill r k (Lam b) h = absurd (let e : false ≡ true = h in cc)

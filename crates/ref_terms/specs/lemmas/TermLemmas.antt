@@ -1,6 +1,8 @@
+-- Renaming and replacing bound indices: two in a row are one.
 use Rattle.std.proofs.Common.{◌≡◌, ℕ, zero, suc, refl, sym, ap, ap₂, ◌∙◌}
 use mathlib.Core.Path.{fun_ext}
-use Rattle.ref_terms.specs.terms.Term.{Term, Lam, At, App, Head, Con, Bound, ren, ren_head, up, next, under, sub}
+use Rattle.ref_terms.specs.terms.Term.{Term, Lam, At, App, Head, Con, Bound}
+use Rattle.ref_terms.specs.terms.Index.{ren, ren_head, up, next, under, sub}
 
 pub up-up : (f g : ℕ → ℕ) (n : ℕ) → up g (up f n) ≡ up (λ n. g (f n)) n
 up-up f g zero = refl

@@ -1,7 +1,9 @@
 -- Renaming variables commutes with all that builds terms.
 use Rattle.std.proofs.Common.{◌≡◌, ℕ, zero, suc, Bool, true, false, cond, refl, ap, ap₂, ◌∙◌, Option, Some, None, option_map}
 use mathlib.Core.Path.{fun_ext}
-use Rattle.ref_terms.specs.terms.Term.{Term, Lam, At, App, Head, Con, Int, Str, Name, Bound, Var, ren, up, next, shift, under, sub, first, up_partial, both, partial, previous, lower, on_index, eta, lam, lam_of}
+use Rattle.ref_terms.specs.terms.Term.{Term, Lam, At, App, Head, Con, Int, Str, Name, Bound, Var}
+use Rattle.ref_terms.specs.terms.Index.{ren, up, next, shift, under, sub, first}
+use Rattle.ref_terms.specs.terms.Eta.{up_partial, both, partial, previous, lower, on_index, eta, lam, lam_of}
 use Rattle.ref_terms.specs.terms.Ready.{ready}
 use Rattle.ref_terms.specs.terms.Apply.{apply, below, fill}
 use Rattle.ref_terms.specs.terms.Renamed.{vars, vars_head}

@@ -1,7 +1,7 @@
 -- Integers, and expressions of them.
 use Rattle.std.specs.Prelude.{◌^◌, ◌-◌, Bool, true, false, cond, not, ◌&&◌, ℤ, pos, negsuc, ◌+ℤ◌, ◌-ℤ◌, ◌*ℤ◌, int_lt, Option, Some, None}
 use Rattle.ref_terms.specs.terms.Term.{Term, At, App, Con, Int}
-use Rattle.ref_terms.specs.unification.Spine.{Shape, Redex as RedexShape, shape}
+use Rattle.ref_terms.specs.unification.Shape.{Shape, Redex as RedexShape, shape}
 use Rattle.ref_terms.specs.search.Reserved.{Reserved, Plus_word, Minus_word, Times_word, word_of}
 use Rattle.ref_terms.specs.search.Fault.{Judged, Good, Bad}
 use Rattle.ref_terms.specs.declared.fault.Fault.{Fault}

@@ -2,7 +2,7 @@
 use Rattle.std.specs.Prelude.{ℕ, zero, suc, ◌+◌, cond, nat_lt, List, [], ◌∷◌, map, Option, Some, None}
 use Rattle.ref_terms.specs.terms.Term.{Term, Lam, At, App, Con, Name}
 use Rattle.ref_terms.specs.terms.Apply.{apply}
-use Rattle.ref_terms.specs.unification.Spine.{Shape, Abstraction, Redex as RedexShape, Rigid, Flex, shape}
+use Rattle.ref_terms.specs.unification.Shape.{Shape, Abstraction, Redex as RedexShape, Rigid, Flex, shape}
 use Rattle.ref_terms.specs.unification.Closing.{close}
 use Rattle.ref_terms.specs.search.Reserved.{Reserved, And_word, Implies_word, If_word, Pi_word, Nonvar_word, Distinct_word, word_of, if_term, implies_term, pi_term}
 use Rattle.ref_terms.specs.search.Fault.{Judged, Good, Bad, judged_map, judged_append}

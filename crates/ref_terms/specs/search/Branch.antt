@@ -1,8 +1,8 @@
 -- A branch of the search, and a binding applied to all of it.
 use Rattle.std.specs.Prelude.{ℕ, List, [], ◌∷◌, map}
 use Rattle.ref_terms.specs.terms.Term.{Term}
-use Rattle.ref_terms.specs.terms.Occurs.{inst}
-use Rattle.ref_terms.specs.unification.Unify.{Binding, Equation}
+use Rattle.ref_terms.specs.terms.Instance.{inst}
+use Rattle.ref_terms.specs.unification.Problem.{Binding, Equation}
 use Rattle.ref_terms.specs.declared.path.Choice.{Choice}
 use Rattle.ref_terms.specs.search.Assumption.{Assumption}
 

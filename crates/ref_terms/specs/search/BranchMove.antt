@@ -2,7 +2,7 @@
 use Rattle.std.specs.Prelude.{ℕ, suc, ◌-◌, ℤ, Bool, true, false, List, [], ◌∷◌, ◌++◌, length, drop, Option, Some, None}
 use Rattle.ref_terms.specs.terms.Term.{Term, Lam, At, Int}
 use Rattle.ref_terms.specs.terms.Apply.{apply, open_with}
-use Rattle.ref_terms.specs.unification.Unify.{Answer, Solved, Clashed, Faulted as UnifyFaulted}
+use Rattle.ref_terms.specs.unification.Problem.{Answer, Solved, Clashed, Faulted as UnifyFaulted}
 use Rattle.ref_terms.specs.search.Fault.{of_unification, Judged, Good, Bad}
 use Rattle.ref_terms.specs.declared.fault.Fault.{Fault}
 use Rattle.ref_terms.specs.declared.fault.Fault.TheVariants.{NotGoal}

@@ -1,6 +1,6 @@
 -- Faults, and answers that may be a fault.
 use Rattle.std.specs.Prelude.{ℕ, List, ◌++◌, codes}
-use Rattle.ref_terms.specs.unification.Unify.{UnifyFault, Redex_fault, Pattern_fault, Scope_fault}
+use Rattle.ref_terms.specs.unification.Problem.{UnifyFault, Redex_fault, Pattern_fault, Scope_fault}
 use Rattle.ref_terms.specs.declared.fault.Fault.{Fault}
 use Rattle.ref_terms.specs.declared.fault.Fault.TheVariants.{FlexGoal, FlexClause, NotGoal, Unknown, Arity, Redex, Pattern, Scope, Number}
 

@@ -1,7 +1,7 @@
 -- The kinds of goals, with their faults.
 use Rattle.std.specs.Prelude.{ℕ, List, [], ◌∷◌, Option, Some, None}
 use Rattle.ref_terms.specs.terms.Term.{Term, Con}
-use Rattle.ref_terms.specs.unification.Spine.{Shape, Abstraction, Redex as RedexShape, Rigid, Flex, shape}
+use Rattle.ref_terms.specs.unification.Shape.{Shape, Abstraction, Redex as RedexShape, Rigid, Flex, shape}
 use Rattle.ref_terms.specs.search.Reserved.{Reserved, True_word, Fail_word, Cut_word, And_word, Or_word, Implies_word, If_word, Pi_word, Sigma_word, Equal_word, Same_word, Var_word, Name_word, Is_word, Less_word, Print_word, Beta_word, Suspend_word, Nil_word, Cons_word, Plus_word, Minus_word, Times_word, Nonvar_word, Distinct_word, word_of}
 use Rattle.ref_terms.specs.declared.fault.Fault.{Fault}
 use Rattle.ref_terms.specs.declared.fault.Fault.TheVariants.{FlexGoal, NotGoal, Unknown, Arity, Redex}

@@ -1,6 +1,7 @@
 -- The terms that the front end's trees stand for.
 use Rattle.std.specs.Prelude.{ℕ, ◌+◌}
-use Rattle.ref_terms.specs.terms.Term.{Term, At, Con, Int, Str, Bound, Var, lam}
+use Rattle.ref_terms.specs.terms.Term.{Term, At, Con, Int, Str, Bound, Var}
+use Rattle.ref_terms.specs.terms.Eta.{lam}
 use Rattle.ref_terms.specs.unification.Spine.{apply_all}
 use Rattle.ref_terms.specs.declared.tree.Tree.{Tree, fold-Tree}
 use Rattle.ref_terms.specs.declared.tree.Head.{Head, fold-Head}

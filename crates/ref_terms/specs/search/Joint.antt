@@ -2,8 +2,9 @@
 use Rattle.std.specs.Prelude.{ℕ, zero, suc, ◌+◌, cond, nat_eq, List, [], ◌∷◌, ◌++◌, replicate, filter, Option, Some, None, option_map, option_and_then, slice_get, slice_index}
 use Rattle.ref_terms.specs.terms.Term.{Term, At, Head, Name}
 use Rattle.ref_terms.specs.terms.Apply.{fill}
-use Rattle.ref_terms.specs.unification.Spine.{Shape, Flex, shape, args_of, pattern_of}
-use Rattle.ref_terms.specs.unification.Unify.{names_of}
+use Rattle.ref_terms.specs.unification.Shape.{Shape, Flex, shape}
+use Rattle.ref_terms.specs.unification.Spine.{args_of}
+use Rattle.ref_terms.specs.unification.Pattern.{pattern_of, names_of}
 use Rattle.ref_terms.specs.unification.Closing.{names_below}
 use Rattle.ref_terms.specs.declared.pair.Pair.{Pair}
 use Rattle.ref_terms.specs.search.Branch.{Constraint}

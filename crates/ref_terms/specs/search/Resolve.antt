@@ -2,7 +2,7 @@
 use Rattle.std.specs.Prelude.{ℕ, Bool, true, false, cond, nat_eq, List, [], ◌∷◌, ◌++◌, map, length, replicate, Option, Some, None, unwrap_or}
 use Rattle.ref_terms.specs.terms.Term.{Term}
 use Rattle.ref_terms.specs.unification.Spine.{args_of}
-use Rattle.ref_terms.specs.unification.Unify.{Equation, Binding, Problem, Answer, Solved, Clashed, Faulted as UnifyFaulted}
+use Rattle.ref_terms.specs.unification.Problem.{Equation, Binding, Answer, Solved, Clashed, Faulted as UnifyFaulted}
 pub use Rattle.ref_terms.specs.unification.Unification.{Unification}
 use Rattle.ref_terms.specs.search.Fault.{of_unification, Judged, Good, Bad}
 use Rattle.ref_terms.specs.declared.fault.Fault.{Fault}

@@ -2,7 +2,7 @@
 use Rattle.std.specs.Prelude.{ℕ, ◌+◌, Bool, true, false, cond, ◌&&◌, not, nat_eq, List, [], ◌∷◌, ◌++◌, map, filter, Option, Some, None, unwrap_or}
 use Rattle.std.specs.List.{list_any, list_all}
 use Rattle.ref_terms.specs.terms.Term.{Term}
-use Rattle.ref_terms.specs.unification.Unify.{Binding, Answer, Solved, Clashed, Faulted as UnifyFaulted}
+use Rattle.ref_terms.specs.unification.Problem.{Binding, Answer, Solved, Clashed, Faulted as UnifyFaulted}
 use Rattle.ref_terms.specs.search.Reserved.{true_term}
 use Rattle.ref_terms.specs.search.Fault.{of_unification, Judged, Good, Bad, judged_map}
 use Rattle.ref_terms.specs.search.Program.{Rule}

@@ -3,7 +3,8 @@ use Rattle.std.specs.Prelude.{ℕ, ◌+◌, Bool, true, false, ◌&&◌, nat_eq,
 use Rattle.std.specs.List.{list_any}
 use Rattle.ref_terms.specs.terms.Term.{Term}
 use Rattle.ref_terms.specs.unification.Spine.{args_of, head_of}
-use Rattle.ref_terms.specs.unification.Unify.{Equation, equations_of}
+use Rattle.ref_terms.specs.unification.Problem.{Equation}
+use Rattle.ref_terms.specs.unification.Rules.{equations_of}
 use Rattle.ref_terms.specs.search.Program.{Rule, RuleHead, constant_of, is_constant}
 use Rattle.ref_terms.specs.search.Lists.{list_term}
 use Rattle.ref_terms.specs.search.Instance.{variable_under, instance}

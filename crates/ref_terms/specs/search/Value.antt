@@ -1,8 +1,8 @@
 -- What built-in predicates and tests ask of terms.
 use Rattle.std.specs.Prelude.{Bool, true, false, ◌&&◌}
 use Rattle.ref_terms.specs.terms.Term.{Term, Lam, At, App, Name}
-use Rattle.ref_terms.specs.unification.Spine.{Shape, Flex, shape}
-use Rattle.ref_terms.specs.unification.Unify.{head_eq}
+use Rattle.ref_terms.specs.unification.Shape.{Shape, Flex, shape}
+use Rattle.ref_terms.specs.unification.Rules.{head_eq}
 
 -- equal terms
 abbrev pub term_eq : Term → Term → Bool

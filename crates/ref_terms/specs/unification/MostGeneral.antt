@@ -1,44 +1,33 @@
--- The bindings of a run are a most general unifier.
-use Rattle.std.specs.Prelude.{◌≡◌, ℕ, ◌<◌, ◌≤◌, cond, false, nat_eq, List, [], ◌∷◌}
-use Rattle.ref_terms.specs.terms.Term.{Term, At, Var, ren}
-use Rattle.ref_terms.specs.terms.Apply.{inst_all}
-use Rattle.ref_terms.specs.terms.Occurs.{occurs}
-use Rattle.ref_terms.specs.unification.Unify.{Equation, Binding, Problem, Solved, Unifies}
-use Rattle.ref_terms.specs.unification.Unifier.{has_name, IsSubstitution, Solves}
+-- What `unify` binds is a most general unifier.
+use Rattle.std.specs.Prelude.{◌≡◌, ℕ, ◌<◌, ◌≤◌, cond, nat_eq, List, [], ◌∷◌}
+use Rattle.ref_terms.specs.terms.Term.{Term}
+use Rattle.ref_terms.specs.terms.Instance.{inst_all}
+use Rattle.ref_terms.specs.unification.Problem.{Equation, Binding, Problem, Solved}
+use Rattle.ref_terms.specs.unification.Unification.{unify}
+use Rattle.ref_terms.specs.unification.Unifier.{IsChoice, IsUnifier}
+use Rattle.ref_terms.specs.unification.Proper.{AreProper}
 
--- the binding, and then the choice for the other variables
-abbrev pub follow : Binding → (ℕ → Term) → ℕ → Term
+-- the binding followed by the choice s: its variable gets the value under s, and the others what s gives
+abbrev pub follow : Binding → (s : ℕ → Term) → ℕ → Term
 follow b s v = cond (nat_eq b.variable v) (inst_all s b.value) (s v)
 
--- the bindings in the order in which they were made, and then the choice; the list has the newest first
-abbrev pub through : List Binding → (ℕ → Term) → ℕ → Term
+-- all bindings followed by the choice s, in the order in which they were made; the list has the newest first
+abbrev pub through : List Binding → (s : ℕ → Term) → ℕ → Term
 through [] s = s
 through (b ∷ bs) s = through bs (follow b s)
 
--- one side of an equation with so many names, where the variables are the numbers below the next one
-pub record IsSide (next_var names : ℕ) (t : Term) : Type 0 where
-  -- it has no free bound index
-  pub closed : (f : ℕ → ℕ) → ren f t ≡ t
-  pub scoped : (x : ℕ) → names ≤ x → has_name x t ≡ false
-  pub known : (v : ℕ) → next_var ≤ v → occurs v t ≡ false
+-- followed by any choice, the bindings are a unifier
+abbrev pub AreUnifier : (m : ℕ) → List Equation → List Binding → Type 0
+AreUnifier m es bs = (s : ℕ → Term) → IsChoice m s → IsChoice m (through bs s) × IsUnifier (through bs s) es
 
-abbrev pub AreProper : ℕ → List Equation → Type 0
-AreProper q [] = Unit {0}
-AreProper q (e ∷ es) = IsSide q e.names e.left × IsSide q e.names e.right × AreProper q es
+-- each unifier agrees with the bindings followed by some choice, on the variables of the problem, which are those below the next one
+abbrev pub CoverUnifiers : (m next_var : ℕ) → List Equation → List Binding → Type 0
+CoverUnifiers m q es bs = (u : ℕ → Term) → IsChoice m u → IsUnifier u es → (s : ℕ → Term) × IsChoice m s × ((v : ℕ) → v < q → u v ≡ through bs s v)
 
--- a substitution that leaves the frozen variables alone, which are those below the mark
-pub record IsChoice (m : ℕ) (u : ℕ → Term) : Type 0 where
-  pub substitution : IsSubstitution u
-  pub frozen : (v : ℕ) → v < m → u v ≡ At (Var v)
-
--- with any choice for the variables that are left, the bindings solve the equations
-abbrev pub BindingsSolve : ℕ → Problem → List Binding → Type 0
-BindingsSolve m p bs = (s : ℕ → Term) → IsChoice m s → IsChoice m (through bs s) × Solves (through bs s) p.equations
-
--- each solution is the bindings with some choice, on the variables of the problem
-abbrev pub BindingsCover : ℕ → Problem → List Binding → Type 0
-BindingsCover m p bs = (u : ℕ → Term) → IsChoice m u → Solves u p.equations → (s : ℕ → Term) × IsChoice m s × ((v : ℕ) → v < p.next_var → u v ≡ through bs s v)
-
--- for mark 0 no variable is frozen, and a choice is any substitution
+-- both, of the bindings that `unify` gives:
+-- the frozen variables are below the next one, else a fresh one would be frozen,
+-- the equations are proper, and there are no bindings yet, so that all that are given were made here
 abbrev pub MostGeneral : Type 0
-MostGeneral = (m : ℕ) (p q : Problem) → m ≤ p.next_var → AreProper p.next_var p.equations → p.bindings ≡ [] → Unifies m p (Solved q) → BindingsSolve m p q.bindings × BindingsCover m p q.bindings
+MostGeneral = (m : ℕ) (p q : Problem) → m ≤ p.next_var → AreProper p.next_var p.equations → p.bindings ≡ []
+    → unify m p ≡ Solved q
+    → AreUnifier m p.equations q.bindings × CoverUnifiers m p.next_var p.equations q.bindings

@@ -1,9 +1,11 @@
 -- Unification as a function, and the number of steps to its answer.
 use Rattle.std.specs.Prelude.{ℕ, zero, suc}
-use Rattle.ref_terms.specs.unification.Unify.{Problem, Answer, Step, Goes, Ends, step}
+use Rattle.ref_terms.specs.unification.Problem.{Problem, Answer, Step, Goes, Ends}
+use Rattle.ref_terms.specs.unification.Rules.{step}
 use Rattle.ref_terms.specs.ending.Ending.{unification-ends}
 
--- from a mark, below which variables are frozen, and a problem to an answer
+-- from a mark and a problem to an answer: variables below the mark are frozen, that is, they count as constants
+-- (matching is unification with the mark at the first variable of the clause or rule instance, so that the older ones are frozen)
 abbrev pub Unification : Type 0
 Unification = ℕ → Problem → Answer
 
