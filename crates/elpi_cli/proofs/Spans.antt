@@ -2,7 +2,8 @@
 use Rattle.std.proofs.Common.{◌≡◌, ℕ, zero, suc, ◌+◌, ◌-◌, ◌≤◌, Bool, true, false, nat_le, List, [], ◌∷◌, ◌++◌, length, take, drop, map, Some, None, refl, ap, sym, subst, ◌∙◌, arith, IsTrue, leb-true, ◌&&◌}
 use Rattle.std.specs.List.{slice_get, list_all}
 use Rattle.ref_terms.specs.terms.Term.{Term, At, Con}
-use Rattle.ref_terms.specs.unification.Spine.{args_of, shape}
+use Rattle.ref_terms.specs.unification.Spine.{args_of}
+use Rattle.ref_terms.specs.unification.Shape.{shape}
 use Rattle.ref_terms.specs.search.Reserved.{Reserved, words, word_of, Nonvar_word, Distinct_word}
 use Rattle.ref_terms.specs.search.Formula.{GoalKind, Atom as AtomGoal, word_goal, shape_goal, goal_kind}
 use Rattle.elpi_cli.specs.declared.horn.Atom.{Atom}

@@ -1,6 +1,7 @@
 -- The terms of the front end's trees, form by form.
 use Rattle.std.proofs.Common.{ℕ, ◌+◌, ℤ, List, map, ◌≡◌, ◌∙◌, ap, sym}
-use Rattle.ref_terms.specs.terms.Term.{Term, At, Con as Constant, Int as Integer, Str as Text, Bound as BoundName, Var, lam}
+use Rattle.ref_terms.specs.terms.Term.{Term, At, Con as Constant, Int as Integer, Str as Text, Bound as BoundName, Var}
+use Rattle.ref_terms.specs.terms.Eta.{lam}
 use Rattle.ref_terms.specs.unification.Spine.{apply_all}
 use Rattle.ref_terms.specs.declared.tree.Tree.{Tree, fold-roll-Tree}
 use Rattle.ref_terms.specs.declared.tree.Tree.TheVariants.{Lam, Ap, rolls-Lam, rolls-Ap}

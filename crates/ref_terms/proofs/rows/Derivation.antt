@@ -2,7 +2,7 @@
 use Rattle.std.proofs.Common.{◌≡◌, ℕ, ◌≤◌, false, [], ◌∷◌, Some, refl, arith}
 use Rattle.ref_terms.specs.terms.Term.{Term, Lam, App, At, Name}
 use Rattle.ref_terms.specs.terms.Ready.{ready}
-use Rattle.ref_terms.specs.unification.Unifier.{has_name}
+use Rattle.ref_terms.specs.terms.Occurs.{has_name}
 use Rattle.ref_terms.specs.search.Program.{Clause}
 use Rattle.ref_terms.specs.search.Derivable.{Derivable, IsChosen, for_all, assuming, exists, by_assumption, no_goals}
 use Rattle.ref_terms.proofs.Samples.{constant, variable, bound}

@@ -1,6 +1,7 @@
 -- What an example's run writes.
 use Rattle.std.specs.Prelude.{ℕ, zero, suc, Bool, false, cond, ◌&&◌, not, nat_eq, nat_le, List, [], ◌∷◌, ◌++◌, flat_map, codes, unwrap_or}
-use Rattle.ref_terms.specs.unification.Unify.{Clashed, run}
+use Rattle.ref_terms.specs.unification.Problem.{Clashed}
+use Rattle.ref_terms.specs.unification.Run.{run}
 use Rattle.ref_terms.specs.search.Fault.{fault_name}
 use Rattle.ref_terms.specs.search.Program.{Program, QueryVar, Query}
 use Rattle.ref_terms.specs.search.State.{Event, Moved, Printed, Answered, Failure, Faulted}

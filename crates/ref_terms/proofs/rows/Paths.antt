@@ -3,7 +3,7 @@ use Rattle.std.proofs.Common.{◌≡◌, false, ℕ, [], ◌∷◌, ◌++◌, So
 use Rattle.std.specs.Fmt.{digits}
 use Rattle.ref_terms.specs.terms.Term.{Term, App}
 use Rattle.ref_terms.specs.terms.Ready.{ready}
-use Rattle.ref_terms.specs.unification.Unify.{step}
+use Rattle.ref_terms.specs.unification.Rules.{step}
 use Rattle.ref_terms.specs.search.Program.{Program}
 use Rattle.ref_terms.specs.search.Next.{next}
 use Rattle.ref_terms.proofs.Samples.{constant, variable, table, lines}

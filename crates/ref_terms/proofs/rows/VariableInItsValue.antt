@@ -5,7 +5,7 @@ use Rattle.std.proofs.Common.{◌≡◌, true, [], ◌∷◌, ◌++◌, codes, r
 use Rattle.std.specs.Fmt.{digits}
 use Rattle.ref_terms.specs.terms.Term.{App}
 use Rattle.ref_terms.specs.terms.Ready.{ready}
-use Rattle.ref_terms.specs.unification.Unify.{step}
+use Rattle.ref_terms.specs.unification.Rules.{step}
 use Rattle.ref_terms.specs.search.Program.{Program, Query}
 use Rattle.ref_terms.proofs.rows.Output.{output}
 use Rattle.ref_terms.specs.search.Next.{next}

@@ -1,10 +1,12 @@
 -- Derivability: what a goal of a plain program means, without search, order or bindings.
 use Rattle.std.specs.Prelude.{◌≡◌, ℕ, suc, ◌-◌, ◌≤◌, Bool, true, false, cond, ◌&&◌, nat_eq, List, [], ◌∷◌, ◌++◌, map, length, option_to_list, Option, Some, slice_get}
 use Rattle.std.specs.List.{list_all}
-use Rattle.ref_terms.specs.terms.Term.{Term, Lam, At, App, Head, Con, Name, ren}
-use Rattle.ref_terms.specs.terms.Apply.{apply, fill, inst_all}
+use Rattle.ref_terms.specs.terms.Term.{Term, Lam, At, App, Head, Con, Name}
+use Rattle.ref_terms.specs.terms.Index.{ren}
+use Rattle.ref_terms.specs.terms.Apply.{apply, fill}
+use Rattle.ref_terms.specs.terms.Instance.{inst_all}
 use Rattle.ref_terms.specs.terms.Built.{IsBuilt}
-use Rattle.ref_terms.specs.unification.Unifier.{has_name}
+use Rattle.ref_terms.specs.terms.Occurs.{has_name}
 use Rattle.ref_terms.specs.search.Fault.{Good}
 use Rattle.ref_terms.specs.search.Reserved.{Reserved, Cut_word, Same_word, Var_word, Name_word, Is_word, Less_word, Print_word, Beta_word, Suspend_word, word_of}
 use Rattle.ref_terms.specs.search.Program.{Clause, Program, Query}
