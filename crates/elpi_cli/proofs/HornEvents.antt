@@ -20,6 +20,7 @@ use Rattle.elpi_cli.specs.HornOutput.{followed, horn_events, plain_block, ended_
 use Rattle.elpi_cli.specs.Output.{Output, line, line_only, preceded, after_failure, written, searched}
 use Rattle.ref_terms.specs.search.Instance.{fresh_for_variable}
 use Rattle.elpi_cli.specs.declared.horn.Span.{Span}
+use Rattle.elpi_cli.specs.Reading.{IsMove}
 use Rattle.elpi_cli.proofs.Constants.{fill-conjunction}
 use Rattle.elpi_cli.proofs.HornNext.{next-moves}
 
@@ -67,3 +68,11 @@ begins table horn query =
 pub same-output : (table : List (List ℕ)) (horn : Horn) → IsProgram horn → (steps limit : ℕ) (query : Span)
     → searched (program_term table horn) (query_term horn query) steps limit ≡ horn_written limit 0 (horn_events horn steps (running (query ∷ []) []))
 same-output table horn is steps limit query = same-written table horn is limit steps 0 (running (query ∷ []) []) (first_state (query_term horn query)) (begins table horn query)
+
+-- the events of a state begin with that of its move
+pub events-move : (horn : Horn) (count : ℕ) (old new : HornState) (event : Event) → 0 < count → IsMove (next horn old) event new → horn_events horn count old ≡ followed event (horn_events horn (count - 1) new)
+unfolding horn_events
+events-move horn zero old new event some move = absurd (omega arith)
+events-move horn (suc count) old new event some move =
+    let fewer : suc count - 1 ≡ count = omega arith in
+    rw (move, fewer) refl

@@ -7,3 +7,4 @@ pub mod HornMoves
 pub mod HornCalls
 pub mod HornNext
 pub mod HornEvents
+pub mod Progress

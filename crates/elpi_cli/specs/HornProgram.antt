@@ -61,8 +61,10 @@ places_of c place (clause ∷ clauses) = cond (nat_eq c clause.head.constant) (p
 abbrev pub is_free : ℕ → Bool
 is_free c = nat_le 23 c
 
--- the places that are kept are those of the clauses, and goals are headed by constants that aren't reserved
+-- The places that are kept are those of the clauses, bodies end within the atoms, and goals are headed by constants
+-- that aren't reserved.
 pub record IsProgram (horn : Horn) : Type 0 where
+  pub within : IsTrue (list_all (λ clause. nat_le clause.body.end (length horn.atoms)) horn.clauses)
   pub indexed : (c : ℕ) → places_for horn c ≡ places_of c 0 horn.clauses
   pub free : IsTrue (list_all (λ atom. is_free atom.constant) horn.atoms)
 

@@ -1,0 +1,136 @@
+// The search of a run, from its first state to its last line.
+ghost use Rattle.std.specs.Prelude.{◌≡◌, ◌≢◌, ◌++◌, ◌∷◌, [], List, ◌+◌, ◌-◌, ◌^◌, ◌<◌, ◌≤◌, OnOk, OnErr, IfOk, IfErr, codes};
+ghost use Rattle.std.specs.String.{string_bytes};
+ghost use Rattle.elpi_cli.specs.Output.{Output, line, line_only, preceded};
+ghost use Rattle.ref_terms.specs.search.Fault.{fault_name};
+ghost use Rattle.elpi_cli.specs.HornOutput.{horn_events, followed, horn_written, plain_block};
+ghost use Rattle.elpi_cli.specs.Written.{Emits, Progress, all_of};
+ghost use Rattle.elpi_cli.specs.Reading.{reading};
+ghost use Rattle.elpi_cli.specs.declared.machine.Event.{Event};
+
+use crate::horn::Horn;
+use crate::machine::{Event, Machine};
+use crate::status::Status;
+use ref_terms::Fault;
+use lam_io::{Sink, SinkFailed};
+use std::alloc::{AllocError, Global};
+
+// Writes the last line, and answers its status.
+pub fn close<K: Sink>(sink: &mut K, line: &[u8], status: Status) -> Status
+    requires end { status ≢ Status.Memory }
+    requires end_too { status ≢ Status.WriteFault }
+    ensures emits { Emits K.told K.faults K.stopped sink.old sink.new (line_only line.now status) result }
+    ensures no_memory { result ≢ Status.Memory }
+{
+    match sink.write(line) {
+        Ok(()) => status,
+        Err(_) => Status::WriteFault,
+    }
+}
+
+// Writes one piece.
+fn emit<K: Sink>(sink: &mut K, piece: &[u8]) -> Result<(), SinkFailed>
+    ensures ok { OnOk result (Emits K.told K.faults K.stopped sink.old sink.new
+        (all_of (piece.now ∷ [])) Status.Done) }
+    ensures err { OnErr result ((rest : Output) → Emits K.told K.faults K.stopped sink.old sink.new
+        (preceded (piece.now ∷ []) rest) Status.WriteFault) }
+{
+    sink.write(piece)
+}
+
+fn answer_text(alloc: Global, number: u64) -> Result<String, AllocError>
+    ensures { IfOk result (λ text. string_bytes text ≡ plain_block number) }
+{
+    format!(in alloc; "answer {number}\n")
+}
+
+// Writes what an event asks for. A status ends the search.
+fn observe<K: Sink>(
+    alloc: Global,
+    event: Event,
+    limit: u64,
+    count: &mut u64,
+    sink: &mut K,
+) -> Result<(), Status>
+    requires { count.old < 2 ^ 64 - 1 }
+    ensures count { count.new ≤ count.old + 1 }
+    ensures goes_on { OnOk result ((later : List Event) → Progress K.told K.faults K.stopped sink.old sink.new
+        (horn_written limit count.new later) (horn_written limit count.old (followed event later))) }
+    ensures ends { IfErr result (λ status. (later : List Event) → Emits K.told K.faults K.stopped sink.old sink.new
+        (horn_written limit count.old (followed event later)) status) }
+{
+    match event {
+        Event::Moved => Ok(()),
+        Event::Answered => {
+            *count += 1;
+            match write_answer(alloc, *count, sink) {
+                Err(status) => Err(status),
+                Ok(()) if *count == limit => Err(close(sink, b"stopped\n", Status::Done)),
+                Ok(()) => Ok(()),
+            }
+        }
+        Event::Failure => Err(if *count == 0 {
+            close(sink, b"failure\n", Status::NoAnswer)
+        } else {
+            close(sink, b"no more\n", Status::Done)
+        }),
+        Event::Faulted(fault) => Err(write_fault(alloc, fault, sink)),
+    }
+}
+
+// Writes the line of a fault.
+fn write_fault<K: Sink>(alloc: Global, fault: Fault, sink: &mut K) -> Status
+    ensures { Emits K.told K.faults K.stopped sink.old sink.new (line_only (codes "fault: " ++ line (fault_name fault)) Status.Fault) result }
+{
+    match fault_text(alloc, fault) {
+        Err(_) => Status::Memory,
+        Ok(text) => close(sink, text.as_bytes(), Status::Fault),
+    }
+}
+
+fn fault_text(alloc: Global, fault: Fault) -> Result<String, AllocError>
+    ensures { IfOk result (λ text. string_bytes text ≡ codes "fault: " ++ line (fault_name fault)) }
+{
+    let name = fault.name();
+    format!(in alloc; "fault: {name}\n")
+}
+
+// Writes the block of an answer.
+fn write_answer<K: Sink>(alloc: Global, number: u64, sink: &mut K) -> Result<(), Status>
+    ensures goes_on { OnOk result (Emits K.told K.faults K.stopped sink.old sink.new (all_of (plain_block number ∷ [])) Status.Done) }
+    ensures ends { IfErr result (λ status. (rest : Output) → Emits K.told K.faults K.stopped sink.old sink.new
+        (preceded (plain_block number ∷ []) rest) status) }
+{
+    match answer_text(alloc, number) {
+        Err(_) => Err(Status::Memory),
+        Ok(block) => match emit(sink, block.as_bytes()) {
+            Err(_) => Err(Status::WriteFault),
+            Ok(()) => Ok(()),
+        },
+    }
+}
+
+// Makes at most so many moves, and writes a block for each answer up to the limit, which 0 leaves out.
+pub fn answer_query<K: Sink>(
+    alloc: Global,
+    horn: &Horn,
+    machine: &mut Machine,
+    steps: u64,
+    limit: u64,
+    sink: &mut K,
+) -> Status
+    ensures { Emits K.told K.faults K.stopped sink.old sink.new
+        (horn_written limit 0 (horn_events horn.now steps (reading horn.now machine.old))) result }
+{
+    let mut count = 0;
+    for made in 0..steps {
+        let Ok(event) = machine.step(horn) else {
+            return Status::Memory;
+        };
+        match observe(alloc, event, limit, &mut count, sink) {
+            Ok(()) => {}
+            Err(status) => return status,
+        }
+    }
+    close(sink, b"out of steps\n", Status::Budget)
+}
