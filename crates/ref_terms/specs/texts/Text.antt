@@ -19,12 +19,12 @@ escaped b = cond (nat_eq b 10) (92 ∷ 110 ∷ []) (cond (nat_eq b 9) (92 ∷ 11
 
 -- the text of a head below so many abstractions
 abbrev pub head_text : List (List ℕ) → (depth : ℕ) → Head → Part
-head_text table d (Con c) = Bytes (symbol table c)
-head_text table d (Int z) = Bytes (signed_decimal z)
-head_text table d (Str s) = Bytes (34 ∷ flat_map escaped (symbol table s) ++ 34 ∷ [])
-head_text table d (Name n) = Bytes (35 ∷ decimal n)
-head_text table d (Bound i) = Bytes (64 ∷ decimal (d - suc i))
-head_text table d (Var v) = Free v
+head_text table depth (Con c) = Bytes (symbol table c)
+head_text table depth (Int z) = Bytes (signed_decimal z)
+head_text table depth (Str s) = Bytes (34 ∷ flat_map escaped (symbol table s) ++ 34 ∷ [])
+head_text table depth (Name n) = Bytes (35 ∷ decimal n)
+head_text table depth (Bound i) = Bytes (64 ∷ decimal (depth - suc i))
+head_text table depth (Var v) = Free v
 
 -- the constants that are printed between two arguments
 abbrev pub infix_word : Option Reserved → Bool
@@ -59,7 +59,7 @@ bracketed ps = Bytes (40 ∷ []) ∷ ps ++ Bytes (41 ∷ []) ∷ []
 
 -- `@d\ `
 abbrev pub binder : ℕ → Part
-binder d = Bytes (64 ∷ decimal d ++ 92 ∷ 32 ∷ [])
+binder depth = Bytes (64 ∷ decimal depth ++ 92 ∷ 32 ∷ [])
 
 -- one space
 abbrev pub space : Part
@@ -72,11 +72,11 @@ abstraction_form _ ps = bracketed ps
 
 -- the text of a term below so many abstractions
 abbrev pub term_parts : List (List ℕ) → Term → Form → (depth : ℕ) → List Part
-term_parts table (Lam b) k d = abstraction_form k (binder d ∷ term_parts table b top (suc d))
-term_parts table (At h) k d = head_text table d h ∷ []
-term_parts table (App f a) k d = elim k [
-  | top ↦ elim (infix_of f) [ None ↦ term_parts table f front d ++ space ∷ term_parts table a inner d | Some c ↦ term_parts table f left d ++ space ∷ Bytes (symbol table c) ∷ space ∷ term_parts table a inner d ]
-  | inner ↦ bracketed (elim (infix_of f) [ None ↦ term_parts table f front d ++ space ∷ term_parts table a inner d | Some c ↦ term_parts table f left d ++ space ∷ Bytes (symbol table c) ∷ space ∷ term_parts table a inner d ])
-  | front ↦ term_parts table f front d ++ space ∷ term_parts table a inner d
-  | left ↦ term_parts table a inner d
+term_parts table (Lam b) form depth = abstraction_form form (binder depth ∷ term_parts table b top (suc depth))
+term_parts table (At h) form depth = head_text table depth h ∷ []
+term_parts table (App f a) form depth = elim form [
+  | top ↦ elim (infix_of f) [ None ↦ term_parts table f front depth ++ space ∷ term_parts table a inner depth | Some c ↦ term_parts table f left depth ++ space ∷ Bytes (symbol table c) ∷ space ∷ term_parts table a inner depth ]
+  | inner ↦ bracketed (elim (infix_of f) [ None ↦ term_parts table f front depth ++ space ∷ term_parts table a inner depth | Some c ↦ term_parts table f left depth ++ space ∷ Bytes (symbol table c) ∷ space ∷ term_parts table a inner depth ])
+  | front ↦ term_parts table f front depth ++ space ∷ term_parts table a inner depth
+  | left ↦ term_parts table a inner depth
 ]
