@@ -66,10 +66,10 @@ module _ {Z A : Type 0} (f : Z → Lexeme → Option Z) (first : Z) (g : Option 
     one_step h z' s =
         elim (leb_tells (counted n c) 1000) [
           | inl holds ↦ record {
-              rest = b.rest ∙ ap (run f (Some z)) e ∙ ap (λ o. run f o (drop (i + 1) u)) s;
-              commas = b.commas ∙ ap (few_commas n) e ∙ ap (λ k. k && few_commas (counted n c) (drop (i + 1) u)) holds.0;
-              few = h;
-            }
+            rest = b.rest ∙ ap (run f (Some z)) e ∙ ap (λ o. run f o (drop (i + 1) u)) s;
+            commas = b.commas ∙ ap (few_commas n) e ∙ ap (λ k. k && few_commas (counted n c) (drop (i + 1) u)) holds.0;
+            few = h;
+          }
           | inr fails ↦ absurd (omega (arith, h, fails.1))
         ]
 

@@ -24,7 +24,12 @@ impl Lexeme {
 }
 
 /// Where the lexeme leads in the clause that began at the place.
-fn in_clause(alloc: Global, place: Place, state: State, lexeme: Lexeme) -> Result<Option<Moved>, AllocError>
+fn in_clause(
+    alloc: Global,
+    place: Place,
+    state: State,
+    lexeme: Lexeme,
+) -> Result<Option<Moved>, AllocError>
     ensures { IfOk result (λ it. it ≡ move (ItemState.Clause place state) lexeme) }
 {
     match lexeme {
@@ -55,7 +60,12 @@ impl ItemState {
 }
 
 /// The state behind the lexeme, with an item that it ends put last into the program.
-pub fn advance(alloc: Global, ast: &mut Ast, state: ItemState, lexeme: Lexeme) -> Result<Option<ItemState>, AllocError>
+pub fn advance(
+    alloc: Global,
+    ast: &mut Ast,
+    state: ItemState,
+    lexeme: Lexeme,
+) -> Result<Option<ItemState>, AllocError>
     ensures { IfOk result (λ it. option_map (λ s. (ast.new, s)) it ≡ moved ast.old (move state lexeme)) }
 {
     match state.step(alloc, lexeme)? {

@@ -12,6 +12,8 @@ mod program;
 mod stack;
 mod state;
 mod term;
+#[cfg(test)]
+mod tests;
 mod token;
 
 pub use ast::{AstGoal, AstTerm, AstTerms, Clause, Item, Operator, Place, WordKind};

@@ -78,7 +78,13 @@ impl Front {
     }
 }
 
-fn infix(alloc: Global, operator: Operator, place: Place, left: AstTerm, right: AstTerm) -> Result<AstTerm, AllocError>
+fn infix(
+    alloc: Global,
+    operator: Operator,
+    place: Place,
+    left: AstTerm,
+    right: AstTerm,
+) -> Result<AstTerm, AllocError>
     ensures { IfOk result (λ term. term ≡ AstTerm.Op operator place left right) }
 {
     let left = Boxed::new(alloc, left)?;
@@ -87,7 +93,13 @@ fn infix(alloc: Global, operator: Operator, place: Place, left: AstTerm, right: 
 }
 
 /// Puts the operator on the stack with its left side, where that has its level.
-fn put(mut frames: Stack<Frame>, operator: Operator, place: Place, level: u8, left: AstTerm) -> Result<Option<Stack<Frame>>, AllocError>
+fn put(
+    mut frames: Stack<Frame>,
+    operator: Operator,
+    place: Place,
+    level: u8,
+    left: AstTerm,
+) -> Result<Option<Stack<Frame>>, AllocError>
     ensures { IfOk result (λ after. after ≡ onto operator place level left frames) }
 {
     if level < operator.left_level() {
@@ -98,17 +110,24 @@ fn put(mut frames: Stack<Frame>, operator: Operator, place: Place, level: u8, le
 }
 
 /// Puts the operator on the stack with its left side, which is the term and the frames that bind tighter.
-fn attach_to(alloc: Global, operator: Operator, place: Place, term: AstTerm, mut frames: Stack<Frame>) -> Result<Option<Stack<Frame>>, AllocError>
+fn attach_to(
+    alloc: Global,
+    operator: Operator,
+    place: Place,
+    term: AstTerm,
+    mut frames: Stack<Frame>,
+) -> Result<Option<Stack<Frame>>, AllocError>
     ensures { IfOk result (λ after. after ≡ attach operator place 9 term frames) }
 {
     let mut left = term;
     let mut left_is = 9;
     while let Some(frame) = frames.pop() {
         match frame {
-            Frame::Left(outer, outer_place, outer_left) if operator.level() < outer.right_level() => {
-                left = infix(alloc, outer, outer_place, outer_left, left)?;
-                left_is = outer.level();
-            }
+            Frame::Left(outer, outer_place, outer_left) if operator.level() < outer.right_level() =>
+                {
+                    left = infix(alloc, outer, outer_place, outer_left, left)?;
+                    left_is = outer.level();
+                }
             frame => {
                 frames.push(frame)?;
                 return put(frames, operator, place, left_is, left);
@@ -125,7 +144,9 @@ fn settle_all(alloc: Global, term: AstTerm, mut frames: Stack<Frame>) -> Result<
     let mut inner = term;
     while let Some(frame) = frames.pop() {
         match frame {
-            Frame::Left(operator, place, left) => inner = infix(alloc, operator, place, left, inner)?,
+            Frame::Left(operator, place, left) => inner = infix(
+                alloc, operator, place, left, inner,
+            )?,
         }
     }
     Ok(inner)
@@ -137,11 +158,20 @@ fn with_atom(alloc: Global, state: State, latest: Latest) -> Result<State, Alloc
 {
     match state {
         State::Want(frames) => Ok(State::Have(Front::Nothing, latest, frames)),
-        State::Have(front, before, frames) => Ok(State::Have(front.extend(alloc, before)?, latest, frames)),
+        State::Have(front, before, frames) => Ok(State::Have(
+            front.extend(alloc, before)?,
+            latest,
+            frames,
+        )),
     }
 }
 
-fn with_infix(alloc: Global, state: State, operator: Operator, place: Place) -> Result<Option<State>, AllocError>
+fn with_infix(
+    alloc: Global,
+    state: State,
+    operator: Operator,
+    place: Place,
+) -> Result<Option<State>, AllocError>
     ensures { IfOk result (λ after. after ≡ infixed state operator place) }
 {
     match state {
@@ -159,7 +189,11 @@ impl State {
         ensures { IfOk result (λ after. after ≡ step self lexeme) }
     {
         match lexeme {
-            Lexeme::Word(kind, text, place) => Ok(Some(with_atom(alloc, self, Latest::Word(kind, text, place))?)),
+            Lexeme::Word(kind, text, place) => Ok(Some(with_atom(
+                alloc,
+                self,
+                Latest::Word(kind, text, place),
+            )?)),
             Lexeme::Infix(operator, place) => with_infix(alloc, self, operator, place),
             Lexeme::Mark(_, _) => Ok(None),
         }

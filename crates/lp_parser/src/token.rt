@@ -9,7 +9,12 @@ use lp_lexer::{Symbol, TokenKind, Tokens};
 use std::alloc::{AllocError, Global};
 
 /// The lexeme of the token with that number, in the file with that number.
-pub fn lexeme_at(alloc: Global, tokens: &Tokens, index: usize, file: u32) -> Result<Lexeme, AllocError>
+pub fn lexeme_at(
+    alloc: Global,
+    tokens: &Tokens,
+    index: usize,
+    file: u32,
+) -> Result<Lexeme, AllocError>
     requires { index < length tokens.now.items }
     ensures { IfOk result (λ it. option_map (lexeme_of file tokens.now.text) (slice_get tokens.now.items index) ≡ Some it) }
 {

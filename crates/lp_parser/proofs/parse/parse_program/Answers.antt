@@ -14,10 +14,10 @@ pub returns-then-are_built-clause-program : goal.returns-then-are_built-clause-p
 unfolding items_of
 returns-then-are_built-clause-program c =
     is_tested are_built (read_items (lexemes_of c.args.file c.args.tokens.now)) c.in_ok-ast.ast c.in_ok-ast.ensures.items
-        (ap are_built (sym c.as_slice.ensures) ∙ sym c.are_built.ensures ∙ c.if-are_built.true)
+    (ap are_built (sym c.as_slice.ensures) ∙ sym c.are_built.ensures ∙ c.if-are_built.true)
 
 pub returns-else-are_built-clause-not_yet : goal.returns-else-are_built-clause-not_yet
 unfolding items_of
 returns-else-are_built-clause-not_yet c e =
     fails_test are_built (read_items (lexemes_of c.args.file c.args.tokens.now)) c.in_ok-ast.ast c.in_ok-ast.ensures.items
-        (ap are_built (sym c.as_slice.ensures) ∙ sym c.are_built.ensures ∙ c.if-are_built.false)
+    (ap are_built (sym c.as_slice.ensures) ∙ sym c.are_built.ensures ∙ c.if-are_built.false)

@@ -14,10 +14,10 @@ pub returns-then-is_built_query-clause-query : goal.returns-then-is_built_query-
 unfolding term_of
 returns-then-is_built_query-clause-query c =
     is_tested is_built_query (read_term (lexemes_of 0 c.args.tokens.now)) c.in_ok-term.term c.in_ok-term.ensures.term
-        (sym c.is_built_query.ensures ∙ c.if-is_built_query.true)
+    (sym c.is_built_query.ensures ∙ c.if-is_built_query.true)
 
 pub returns-else-is_built_query-clause-not_yet : goal.returns-else-is_built_query-clause-not_yet
 unfolding term_of
 returns-else-is_built_query-clause-not_yet c e =
     fails_test is_built_query (read_term (lexemes_of 0 c.args.tokens.now)) c.in_ok-term.term c.in_ok-term.ensures.term
-        (sym c.is_built_query.ensures ∙ c.if-is_built_query.false)
+    (sym c.is_built_query.ensures ∙ c.if-is_built_query.false)
