@@ -3,3 +3,4 @@ pub mod TermComplete
 pub mod TermSound
 pub mod Items
 pub mod Readings
+pub mod Outcome

@@ -116,9 +116,11 @@ phrase_goes (tighter {j} {k} {t} le p) s w =
     (on.0, on.1, record { settled = on.2.settled; infix_behind = λ i o r s' e. on.2.infix_behind i o r s' (attach_looser o r j k t s s' le e) })
 phrase_goes (infix_of {a} {b} o r p q) s w =
     let on = phrase_goes p s (omega (arith, level_left o, w)) in
-    let by = phrase_goes q (frame.Left o r a ∷ s) (omega arith) in
-    (by.0, and_goes on.1 (steps (on.2.infix_behind tt o r (frame.Left o r a ∷ s) (attach_here o r a s w)) by.1),
-    record { settled = by.2.settled; infix_behind = λ i p' r' s' e. by.2.infix_behind i p' r' s' (attach_past o p' r r' a b s s' w e) })
+    let by = phrase_goes q (frame.Left o r a ∷ s) (omega arith) in (
+      by.0,
+      and_goes on.1 (steps (on.2.infix_behind tt o r (frame.Left o r a ∷ s) (attach_here o r a s w)) by.1),
+      record { settled = by.2.settled; infix_behind = λ i p' r' s' e. by.2.infix_behind i p' r' s' (attach_past o p' r r' a b s s' w e) },
+    )
 phrase_goes (alone p) s w =
     let on = atom_goes p (state.Want s) front.Nothing refl in
     (state.Have front.Nothing on.0 s, on.2, subst (λ y. Reads 9 Closed y s (state.Have front.Nothing on.0 s)) on.1 (reads_atom front.Nothing on.0 s))

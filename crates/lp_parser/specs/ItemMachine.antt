@@ -47,10 +47,19 @@ moved is None = None
 moved is (Some (To p)) = Some (is, p)
 moved is (Some (Done i)) = Some (is ++ i ∷ [], place.Between)
 
+-- the same from the items and the state before the lexeme
+abbrev pub item_step : List Item × ItemState → Lexeme → Option (List Item × ItemState)
+item_step z c = moved z.0 (move z.1 c)
+
+-- where a machine with these steps comes over the lexemes
+abbrev pub run : {Z : Type 0} → (Z → Lexeme → Option Z) → Option Z → List Lexeme → Option Z
+run f None u = None
+run f (Some z) [] = Some z
+run f (Some z) (c ∷ u) = run f (f z c) u
+
+-- the programs' machine over the lexemes
 abbrev pub after : Option (List Item × ItemState) → List Lexeme → Option (List Item × ItemState)
-after None u = None
-after (Some p) [] = Some p
-after (Some p) (c ∷ u) = after (moved p.0 (move p.1 c)) u
+after o u = run item_step o u
 
 -- the items, where the last one is over
 abbrev pub ended : Option (List Item × ItemState) → Option (List Item)
@@ -58,11 +67,9 @@ ended None = None
 ended (Some (is, place.Between)) = Some is
 ended (Some (is, place.Clause p q)) = None
 
--- the terms' machine over a whole list
+-- the terms' machine over the lexemes
 abbrev pub term_after : Option State → List Lexeme → Option State
-term_after None u = None
-term_after (Some q) [] = Some q
-term_after (Some q) (c ∷ u) = term_after (step q c) u
+term_after o u = run step o u
 
 -- the term, where it is over
 abbrev pub finished : Option State → Option AstTerm

@@ -16,13 +16,24 @@ abbrev pub tested : {A : Type 0} → (A → Bool) → Option A → Option A
 tested test None = None
 tested test (Some x) = if test x then Some x else None
 
+-- What is read, where no item has too many commas.
+abbrev pub limited : {A : Type 0} → List Lexeme → Option A → Option A
+limited u o = if few_commas 0 u then o else None
+
+-- what the machine reads as items, and as a term
+abbrev pub read_items : List Lexeme → Option (List Item)
+read_items u = limited u (ended (after (Some ([], Between)) u))
+
+abbrev pub read_term : List Lexeme → Option AstTerm
+read_term u = limited u (finished (term_after (Some (Want [])) u))
+
 -- The items of a program.
 unfoldable pub items_of : List Lexeme → Option (List Item)
-items_of u = if few_commas 0 u then tested are_built (ended (after (Some ([], Between)) u)) else None
+items_of u = tested are_built (read_items u)
 
 -- The term of a query.
 unfoldable pub term_of : List Lexeme → Option AstTerm
-term_of u = if few_commas 0 u then tested is_built_query (finished (term_after (Some (Want [])) u)) else None
+term_of u = tested is_built_query (read_term u)
 
 -- The lexemes are a program of these items, and it is built.
 pub record IsProgram (u : List Lexeme) (is : List Item) : Type 0 where
