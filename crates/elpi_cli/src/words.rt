@@ -1,6 +1,6 @@
 // The words of the command line.
-ghost use Rattle.std.specs.Prelude.{◌≡◌, ◌≢◌, None, Some, IfOk, IfErr};
-ghost use Rattle.elpi_cli.specs.Words.{texts, command, take_word};
+ghost use Rattle.std.specs.Prelude.{◌≡◌, ◌<◌, length, None, Some, IfOk, ℕ};
+ghost use Rattle.elpi_cli.specs.Words.{texts, command, take_word, IsCommand, AreBelow, IsWithin};
 
 use ref_terms::Sequence;
 use std::alloc::{AllocError, AllocFailed, Global};
@@ -57,7 +57,8 @@ impl Reading {
 
     // Takes one more word, or answers false where it can't stand there.
     fn take(&mut self, index: usize, word: &[u8]) -> Result<bool, AllocFailed<usize>>
-        ensures { IfOk result (λ taken. take_word self.old index word.now ≡ (if taken then Some self.new else None)) }
+        ensures taken { IfOk result (λ taken. take_word self.old index word.now ≡ (if taken then Some self.new else None)) }
+        ensures below { (count : ℕ) → index < count → AreBelow count self.old → AreBelow count self.new }
     {
         match self.place {
             Place::First => {
@@ -90,8 +91,8 @@ impl Reading {
 
 /// Reads the words of a command line.
 pub fn read_words(alloc: Global, words: &[String]) -> Result<Command, WordsStop>
-    ensures command { IfOk result (λ found. command (texts words.now) ≡ Ok found) }
-    ensures bad_word { IfErr result (λ stop. stop ≢ WordsStop.Memory → command (texts words.now) ≡ Err stop) }
+    ensures command { IsCommand (command (texts words.now)) result }
+    ensures within { IfOk result (IsWithin (length words.now)) }
 {
     let mut reading = Reading {
         place: Place::First,
