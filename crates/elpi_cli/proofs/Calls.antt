@@ -87,7 +87,7 @@ lengths-differ ss ts other = go (numbers_eq ss ts) refl
 tried-instance : (b : Branch) (g : Goal) (gs : List Goal) (barrier : ℕ) (candidate : Candidate) (next : ℕ) (ss ts : List ℕ) (body : List Term) (head : Term)
     → g.names ≡ 0 → args_of g.term ≡ map constant ts → args_of head ≡ map constant ss → (r : Bool) → nat_eq (length ss) (length ts) ≡ r
     → try_instance unify (Some (replicate (length ts) false)) b g gs barrier candidate (record { next_var = next; head = head; body = body })
-        ≡ cond (numbers_eq ss ts) (Fits (bound_branch [] next (entered b g gs barrier candidate body))) Clashes
+    ≡ cond (numbers_eq ss ts) (Fits (bound_branch [] next (entered b g gs barrier candidate body))) Clashes
 tried-instance b g gs barrier candidate next ss ts body head names goal_args head_args false other =
     rw (goal_args, head_args, length-map ss constant, length-map ts constant, other, lengths-differ ss ts other) refl
 tried-instance b g gs barrier candidate next ss ts body head names goal_args head_args true same =
@@ -98,12 +98,12 @@ tried-instance b g gs barrier candidate next ss ts body head names goal_args hea
 pub tried-place : (horn : Horn) (b : Branch) (g : Goal) (gs : List Goal) (barrier place : ℕ) (clause : HornClause) (ts : List ℕ)
     → slice_get horn.clauses place ≡ Some clause → g.names ≡ 0 → args_of g.term ≡ map constant ts
     → try unify (Some (replicate (length ts) false)) b g gs barrier (candidate_at horn place)
-        ≡ cond (numbers_eq clause.head.arguments ts) (Fits (into horn b g gs barrier place clause)) Clashes
+    ≡ cond (numbers_eq clause.head.arguments ts) (Fits (into horn b g gs barrier place clause)) Clashes
 tried-place horn b g gs barrier place clause ts at names goal_args =
     ap (λ (c : Candidate). try unify (Some (replicate (length ts) false)) b g gs barrier c) (clause-at horn place clause at)
     ∙ ap (λ (k : ClauseInstance). try_instance unify (Some (replicate (length ts) false)) b g gs barrier (of_program place (clause_term horn.atoms clause)) k) (instance-clause horn.atoms clause g.names b.next_var)
     ∙ (tried-instance b g gs barrier (of_program place (clause_term horn.atoms clause)) (b.next_var + 0) clause.head.arguments ts (option_to_list (body_term horn.atoms clause.body)) (atom_term clause.head)
-        names goal_args (args-applied (constant clause.head.constant) clause.head.arguments) (nat_eq (length clause.head.arguments) (length ts)) refl)
+    names goal_args (args-applied (constant clause.head.constant) clause.head.arguments) (nat_eq (length clause.head.arguments) (length ts)) refl)
 
 -- what the resolution is, where a place was found
 pub record IsResolved (horn : Horn) (b : Branch) (g : Goal) (gs : List Goal) (barrier : ℕ) (found : ℕ × List ℕ) (r : Resolved) : Type 0 where
@@ -130,6 +130,6 @@ resolved-places horn b g gs barrier ts names goal_args (place ∷ places) there 
   where
     go : (r : Bool) → IsResolution horn b g gs barrier (first_fit horn ts places) (resolve unify (Some (replicate (length ts) false)) b g gs barrier (map (candidate_at horn) places))
         → IsResolution horn b g gs barrier (cond r (Some (place, places)) (first_fit horn ts places))
-            (decided (map (candidate_at horn) places) (resolve unify (Some (replicate (length ts) false)) b g gs barrier (map (candidate_at horn) places)) (cond r (Fits (into horn b g gs barrier place there.0.0)) Clashes))
+        (decided (map (candidate_at horn) places) (resolve unify (Some (replicate (length ts) false)) b g gs barrier (map (candidate_at horn) places)) (cond r (Fits (into horn b g gs barrier place there.0.0)) Clashes))
     go true rest = record { clause = there.0.0; at = there.0.1; branch = refl; later = refl; there = there.1 }
     go false rest = rest

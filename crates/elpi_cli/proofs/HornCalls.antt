@@ -60,13 +60,13 @@ calls-stated : (table : List (List ℕ)) (horn : Horn) (index : ℕ) (atom : Ato
     → modes_of (program_term table horn) atom.constant ≡ Some (replicate (length atom.arguments) false)
     → (places : List ℕ) → AllThere horn places
     → IsMoveOf table horn (horn_search.resolved horn index atom.arguments spans choices places)
-        (enters b alts (resolve unify (Some (replicate (length atom.arguments) false)) b g gs barrier (map (candidate_at horn) places)))
+    (enters b alts (resolve unify (Some (replicate (length atom.arguments) false)) b g gs barrier (map (candidate_at horn) places)))
 calls-stated table horn index atom at b g gs spans goals plain goal are choices alts others barrier modes places there =
     let choice : Choice = record { atom = index; places = places; goals = spans } in
     let call : IsCall table horn choice b (map (candidate_at horn) places) =
-        record { plain = plain; atom = atom; at = at; goal = g; rest = gs; goals = goals; called = goal; others = are; modes = modes; left = refl; there = there } in
+    record { plain = plain; atom = atom; at = at; goal = g; rest = gs; goals = goals; called = goal; others = are; modes = modes; left = refl; there = there } in
     enters-found table horn choice b (map (candidate_at horn) places) call barrier choices alts others (first_fit horn atom.arguments places) _
-        (resolved-places horn b g gs barrier atom.arguments goal.names (goal-arguments atom g goal) places there)
+    (resolved-places horn b g gs barrier atom.arguments goal.names (goal-arguments atom g goal) places there)
 
 -- the call of an atom, whose clauses stand at these places
 calls-places : (table : List (List ℕ)) (horn : Horn) (index : ℕ) (atom : Atom) → slice_get horn.atoms index ≡ Some atom
@@ -75,14 +75,14 @@ calls-places : (table : List (List ℕ)) (horn : Horn) (index : ℕ) (atom : Ato
     → (places : List ℕ) → places_for horn atom.constant ≡ places → modes_of (program_term table horn) atom.constant ≡ modes_from horn places
     → candidates (program_term table horn) atom.constant g.assumptions ≡ map (candidate_at horn) places → AllThere horn places
     → IsMoveOf table horn (horn_search.called horn index atom spans choices (fault_at horn atom.arguments places))
-        (calls unify (program_term table horn) atom.constant b g gs alts (checked_arity (length atom.arguments) (modes_from horn places) []))
+    (calls unify (program_term table horn) atom.constant b g gs alts (checked_arity (length atom.arguments) (modes_from horn places) []))
 calls-places table horn index atom at b g gs spans goals plain goal are choices alts others [] places modes cs there = ends-in table horn Unknown
 calls-places table horn index atom at b g gs spans goals plain goal are choices alts others (place ∷ more) places modes cs there =
     rw (length-replicate (arity_at horn place) false) (go (nat_eq (length atom.arguments) (arity_at horn place)) refl)
   where
     go : (r : Bool) → nat_eq (length atom.arguments) (arity_at horn place) ≡ r
         → IsMoveOf table horn (horn_search.called horn index atom spans choices (cond r None (Some Arity)))
-            (calls unify (program_term table horn) atom.constant b g gs alts (cond r None (Some Arity)))
+        (calls unify (program_term table horn) atom.constant b g gs alts (cond r None (Some Arity)))
     go false e = ends-in table horn Arity
     go true e =
         let same = eqb-true (length atom.arguments) (arity_at horn place) e in
@@ -94,7 +94,7 @@ pub calls-atom : (table : List (List ℕ)) (horn : Horn) → IsProgram horn → 
     → (b : Branch) (g : Goal) (gs : List Goal) (spans : List Span) → b.goals ≡ g ∷ gs → IsPlain b → IsGoal (atom_term atom) g → AreGoals horn.atoms spans gs
     → (choices : List Choice) (alts : List Alternative) → AreAlternatives table horn choices alts
     → IsMoveOf table horn (horn_search.called horn index atom spans choices (fault_at horn atom.arguments (places_for horn atom.constant)))
-        (calls unify (program_term table horn) atom.constant b g gs alts (call_fault (program_term table horn) atom.constant (map constant atom.arguments) g.assumptions))
+    (calls unify (program_term table horn) atom.constant b g gs alts (call_fault (program_term table horn) atom.constant (map constant atom.arguments) g.assumptions))
 calls-atom table horn is index atom at b g gs spans goals plain goal are choices alts others =
     let c = atom.constant in
     let places = places_of c 0 horn.clauses in
@@ -102,7 +102,7 @@ calls-atom table horn is index atom at b g gs spans goals plain goal are choices
     let cs : candidates (program_term table horn) c g.assumptions ≡ map (candidate_at horn) places = rw goal.assumptions all.candidates in
     let move = calls-places table horn index atom at b g gs spans goals plain goal are choices alts others places (is.indexed c) all.modes cs all.there in
     let fault_is : call_fault (program_term table horn) c (map constant atom.arguments) g.assumptions ≡ checked_arity (length atom.arguments) (modes_from horn places) [] =
-        rw (goal.assumptions, length-map atom.arguments constant, all.modes) refl in
+    rw (goal.assumptions, length-map atom.arguments constant, all.modes) refl in
     rw (is.indexed c) (subst (λ (e : Option Fault). IsMoveOf table horn (horn_search.called horn index atom spans choices (fault_at horn atom.arguments places)) (calls unify (program_term table horn) c b g gs alts e)) (sym fault_is) move)
 
 -- a goal of no atoms is `true`
@@ -118,7 +118,7 @@ goal-split : (table : List (List ℕ)) (horn : Horn) (b : Branch) (g : Goal) (gs
     → IsPlain b → g.names ≡ 0 → g.assumptions ≡ [] → AreGoals horn.atoms spans gs → g.term ≡ conjunction (a ∷ next ∷ more) → atoms_of horn.atoms span ≡ a ∷ next ∷ more
     → (choices : List Choice) (alts : List Alternative) → AreAlternatives table horn choices alts
     → IsMoveOf table horn (horn_search.moves_to (record { start = span.start; end = span.start + 1 } ∷ record { start = span.start + 1; end = span.end } ∷ spans) choices)
-        (goal_move unify (program_term table horn) b g gs alts)
+    (goal_move unify (program_term table horn) b g gs alts)
 goal-split table horn b g gs span spans a next more plain names assumptions are term atoms choices alts others =
     let kind : goal_kind g.term ≡ Conjunction (atom_term a) (conjunction (next ∷ more)) = ap goal_kind term in
     let parts = split horn.atoms span.start (span.end - span.start) a (next ∷ more) atoms in
@@ -129,10 +129,13 @@ goal-split table horn b g gs span spans a next more plain names assumptions are 
     let rest : span_term horn.atoms (record { start = span.start + 1; end = span.end }) ≡ conjunction (next ∷ more) = rw (after, fewer, parts.others) refl in
     rw kind (record {
       event = tt;
-      state = (record {
-        plain = record { store = plain.store; query = plain.query };
-        goals = (record { names = names; assumptions = assumptions; term = sym first }, (record { names = names; assumptions = assumptions; term = sym rest }, are));
-      }, others);
+      state = (
+        record {
+          plain = record { store = plain.store; query = plain.query };
+          goals = (record { names = names; assumptions = assumptions; term = sym first }, (record { names = names; assumptions = assumptions; term = sym rest }, are));
+        },
+        others,
+      );
     })
 
 -- one atom is called

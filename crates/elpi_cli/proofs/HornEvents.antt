@@ -54,15 +54,17 @@ same-written table horn is limit (suc n) count h s state =
     let move = next-moves table horn is h s state in
     let whole = reference_next unify (program_term table horn) s in
     by-event table limit count (events unify (program_term table horn) n) whole.state (horn_events horn n (next horn h).state)
-        (λ c. same-written table horn is limit n c (next horn h).state whole.state move.state) (next horn h).event whole.event move.event
+    (λ c. same-written table horn is limit n c (next horn h).state whole.state move.state) (next horn h).event whole.event move.event
 
 -- the state in which a query begins
 pub begins : (table : List (List ℕ)) (horn : Horn) (query : Span) → IsState table horn (running (query ∷ []) []) (first_state (query_term horn query))
-begins table horn query =
-    (record {
-      plain = record { store = refl; query = refl };
-      goals = (record { names = refl; assumptions = refl; term = fill-conjunction (fresh_for_variable 0 0) (λ c. refl) (atoms_of horn.atoms query) }, tt);
-    }, tt)
+begins table horn query = (
+  record {
+    plain = record { store = refl; query = refl };
+    goals = (record { names = refl; assumptions = refl; term = fill-conjunction (fresh_for_variable 0 0) (λ c. refl) (atoms_of horn.atoms query) }, tt);
+  },
+  tt,
+)
 
 -- the whole output of a search
 pub same-output : (table : List (List ℕ)) (horn : Horn) → IsProgram horn → (steps limit : ℕ) (query : Span)

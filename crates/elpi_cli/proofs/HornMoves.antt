@@ -68,6 +68,8 @@ pub goes-into : (table : List (List ℕ)) (horn : Horn) (choice : Choice) (b : B
     → IsMoveOf table horn (horn_search.entered horn choice.atom choice.goals choices found) (record { event = Rattle.ref_terms.specs.search.State.Moved; state = Running r.branch (with_later b r.later alts) })
 goes-into table horn choice b cs call barrier found r is choices alts are = record {
   event = tt;
-  state = rw (is.branch, is.later) (into-branch horn b call.goal call.rest barrier found.0 is.clause choice.goals is.at call.plain call.called.names call.called.assumptions call.others,
-    later-choice table horn choice b cs call found.1 is.there choices alts are);
+  state = rw (is.branch, is.later) (
+    into-branch horn b call.goal call.rest barrier found.0 is.clause choice.goals is.at call.plain call.called.names call.called.assumptions call.others,
+    later-choice table horn choice b cs call found.1 is.there choices alts are,
+  );
 }

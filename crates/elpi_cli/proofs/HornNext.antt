@@ -44,18 +44,18 @@ retry-call : (table : List (List ℕ)) (horn : Horn) (choice : Choice) (b : Bran
 retry-call table horn choice b cs call choices alts are older =
     let atom = call.atom in
     let constant_is : constant_of (head_of call.goal.term) ≡ Some atom.constant =
-        ap (λ (t : Term). constant_of (head_of t)) call.called.term ∙ ap constant_of (head-applied (constant atom.constant) atom.arguments) in
+    ap (λ (t : Term). constant_of (head_of t)) call.called.term ∙ ap constant_of (head-applied (constant atom.constant) atom.arguments) in
     let modes_is : constant_modes (program_term table horn) (constant_of (head_of call.goal.term)) ≡ Some (replicate (length atom.arguments) false) =
-        ap (constant_modes (program_term table horn)) constant_is ∙ call.modes in
+    ap (constant_modes (program_term table horn)) constant_is ∙ call.modes in
     let found = retaken-found table horn choice b cs call (length alts) choices alts are (horn_search.retry horn choices) (reference_retry unify (program_term table horn) alts) older
-        (first_fit horn atom.arguments choice.places) _
-        (resolved-places horn b call.goal call.rest (length alts) atom.arguments call.called.names (goal-arguments atom call.goal call.called) choice.places call.there) in
+    (first_fit horn atom.arguments choice.places) _
+    (resolved-places horn b call.goal call.rest (length alts) atom.arguments call.called.names (goal-arguments atom call.goal call.called) choice.places call.there) in
     let later_is : resolve_later unify (program_term table horn) b (length alts) cs b.goals ≡ resolve unify (Some (replicate (length atom.arguments) false)) b call.goal call.rest (length alts) (map (candidate_at horn) choice.places) =
-        ap (λ (gs : List Goal). resolve_later unify (program_term table horn) b (length alts) cs gs) call.goals
-        ∙ ap (λ (ms : Option (List Bool)). resolve unify ms b call.goal call.rest (length alts) cs) modes_is
-        ∙ ap (λ (left : List Candidate). resolve unify (Some (replicate (length atom.arguments) false)) b call.goal call.rest (length alts) left) call.left in
+    ap (λ (gs : List Goal). resolve_later unify (program_term table horn) b (length alts) cs gs) call.goals
+    ∙ ap (λ (ms : Option (List Bool)). resolve unify ms b call.goal call.rest (length alts) cs) modes_is
+    ∙ ap (λ (left : List Candidate). resolve unify (Some (replicate (length atom.arguments) false)) b call.goal call.rest (length alts) left) call.left in
     rw call.at (subst (λ (r : Option (Judged Resolved)). IsMoveOf table horn (option_map_or (horn_search.entered horn choice.atom choice.goals choices) (first_fit horn atom.arguments choice.places) (horn_search.retry horn choices))
-        (retaken b alts (reference_retry unify (program_term table horn) alts) r)) (sym later_is) found)
+    (retaken b alts (reference_retry unify (program_term table horn) alts) r)) (sym later_is) found)
 
 -- the move of an ended branch
 pub retry-moves : (table : List (List ℕ)) (horn : Horn) (choices : List Choice) (alts : List Alternative) → AreAlternatives table horn choices alts

@@ -8,3 +8,5 @@ pub mod HornCalls
 pub mod HornNext
 pub mod HornEvents
 pub mod Progress
+pub mod Begins
+pub mod Whole

@@ -5,3 +5,11 @@ pub mod Output
 pub mod HornOutput
 pub mod Words
 pub mod Written
+pub mod Symbols
+pub mod Resolve
+pub mod Texts
+pub mod Top
+pub mod Begins
+pub mod Prepared
+pub mod Conversion
+pub mod ExitStatus

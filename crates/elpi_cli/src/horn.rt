@@ -42,7 +42,11 @@ impl Horn {
     {
         let count = self.atoms.len();
         let end = if span.end < count { span.end } else { count };
-        if span.start < end { end - span.start } else { 0 }
+        if span.start < end {
+            end - span.start
+        } else {
+            0
+        }
     }
 
     // The places of the clauses that a constant heads.
@@ -87,7 +91,7 @@ impl Horn {
 
     // The index among these places, from this one on, of the first whose clause has these arguments.
     pub fn find_fit(&self, arguments: &[usize], places: &[usize], tried: usize) -> Option<usize>
-                ensures found { IsFound self.now arguments.now places.now tried result }
+        ensures found { IsFound self.now arguments.now places.now tried result }
         ensures within { IfSome result (λ at. at < length places.now) }
     {
         for at in tried..places.len() {

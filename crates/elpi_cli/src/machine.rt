@@ -157,7 +157,15 @@ impl Machine {
             event (reading horn.now self.new)) }
     {
         let places = horn.places_at(index);
-        keep_later(self.alloc, horn, index, at + 1, places.len(), &self.goals, &mut self.alternatives)?;
+        keep_later(
+            self.alloc,
+            horn,
+            index,
+            at + 1,
+            places.len(),
+            &self.goals,
+            &mut self.alternatives,
+        )?;
         push_body(horn, places[at], &mut self.goals)?;
         self.phase = Phase::Running;
         Ok(Event::Moved)
@@ -187,7 +195,11 @@ fn find_later(horn: &Horn, index: usize, tried: usize) -> Option<usize>
 {
     match horn.atoms.as_slice().get(index) {
         None => None,
-        Some(atom) => horn.find_fit(atom.arguments.as_slice(), horn.places_for(atom.constant), tried),
+        Some(atom) => horn.find_fit(
+            atom.arguments.as_slice(),
+            horn.places_for(atom.constant),
+            tried,
+        ),
     }
 }
 

@@ -11,8 +11,8 @@ ghost use Rattle.elpi_cli.specs.declared.machine.Event.{Event};
 use crate::horn::Horn;
 use crate::machine::{Event, Machine};
 use crate::status::Status;
-use ref_terms::Fault;
 use lam_io::{Sink, SinkFailed};
+use ref_terms::Fault;
 use std::alloc::{AllocError, Global};
 
 // Writes the last line, and answers its status.

@@ -1,0 +1,194 @@
+// The top call.
+ghost use Rattle.std.specs.Prelude.{◌≡◌, ◌≢◌, ◌∷◌, ◌++◌, ◌<◌, [], List, IfSome, IfOk, IsOkAnd, IsErr, IsSome, Some, Ok, length, slice_index_or, codes};
+ghost use Rattle.std.specs.String.{string_bytes};
+ghost use Rattle.lam_io.specs.Faults.{Rose, HasCause};
+ghost use Rattle.lam_io.specs.Reads.{bytes_of};
+ghost use Rattle.lam_io.specs.Writes.{Appended};
+ghost use Rattle.lp_parser.specs.declared.ast.Item.{Item};
+ghost use Rattle.elpi_cli.specs.Words.{texts, command};
+ghost use Rattle.elpi_cli.specs.Written.{IsStop, Emits};
+ghost use Rattle.elpi_cli.specs.Texts.{with_file, with_items, items_of, not_yet};
+ghost use Rattle.elpi_cli.specs.Top.{output, files_output, query_output, texts_output, word_at, known_files, IsRunOf, IsStatusOf};
+ghost use Rattle.elpi_cli.specs.Prepared.{Prepares, Loads, prepared_output, status_of, IsFileStatus, IsTextStatus};
+
+use crate::horn::Horn;
+use crate::machine::Machine;
+use crate::search::{answer_query, close};
+use crate::status::Status;
+use crate::symbols::Symbols;
+use crate::texts::{read_program, read_query};
+use crate::words::{Command, WordsStop, read_words};
+use lam_io::{FileFail, Files, Sink};
+use std::alloc::{AllocError, Global};
+
+const FILE_LIMIT: usize = 4_194_304;
+
+/// Does all that the program does, with these words: reads the files, runs the query over them, and writes each answer
+/// and the last line, each as one piece. It stands on what `files` and `sink` tell.
+pub fn run<F: Files, K: Sink>(
+    alloc: Global,
+    words: &[String],
+    files: &mut F,
+    sink: &mut K,
+) -> Status
+    // Unless memory, a read or a write failed, the status is the reference's.
+    ensures status { IfSome (known_files (texts words.now) (F.told files.old)) (λ told. IsStatusOf (texts words.now) told result) }
+
+    // So are the bytes; after such a failure they are whole pieces, or a front, or the line that names the file.
+    ensures bytes { IfSome (known_files (texts words.now) (F.told files.old)) (λ told.
+        Appended (K.told sink.old) (K.told sink.new) (IsRunOf (texts words.now) told (Rose (F.faults files.old) (F.faults files.new)) result)) }
+
+    // No status gives up: a fault comes only where its count rose, and the words are bad.
+    ensures read_fault { result ≡ Status.ReadFault → Rose (F.faults files.old) (F.faults files.new) }
+    ensures write_fault { result ≡ Status.WriteFault → Rose (K.faults sink.old) (K.faults sink.new) }
+    ensures words { result ≡ Status.Words → IsErr (command (texts words.now)) }
+
+    // Nothing is written after a failed write.
+    ensures stopped { IsStop (K.told sink.old) (K.told sink.new) (K.stopped sink.old) (K.stopped sink.new) result }
+{
+    match prepare(alloc, words, files) {
+        Err(_) => Status::Memory,
+        Ok(prepared) => perform(alloc, prepared, sink),
+    }
+}
+
+// Writes what was prepared.
+fn perform<K: Sink>(alloc: Global, prepared: Prepared, sink: &mut K) -> Status
+    requires { (status_of prepared ≢ Some Status.Memory) × (status_of prepared ≢ Some Status.WriteFault) }
+    ensures emits { Emits K.told K.faults K.stopped sink.old sink.new (prepared_output prepared) result }
+    ensures line { IsSome (status_of prepared) → result ≢ Status.Memory }
+{
+    match prepared {
+        Prepared::Line(line, status) => close(sink, line.as_bytes(), status),
+        Prepared::Search(mut job) => answer_query(
+            alloc,
+            &job.horn,
+            &mut job.machine,
+            job.steps,
+            job.answers,
+            sink,
+        ),
+    }
+}
+
+/// A search that can begin.
+#[derive(Debug, Drop)]
+pub struct Job {
+    pub horn: Horn,
+    pub machine: Machine,
+    pub steps: u64,
+    pub answers: u64,
+}
+
+/// What the words and the files give: a search, or one line and the status.
+#[derive(Debug, Drop)]
+pub enum Prepared {
+    Search(Job),
+    Line(String, Status),
+}
+
+// Reads the words and the files.
+fn prepare<F: Files>(alloc: Global, words: &[String], files: &mut F) -> Result<Prepared, AllocError>
+    ensures told { F.told files.new ≡ F.told files.old }
+    ensures prepared { IfOk result (λ prepared. IfSome (known_files (texts words.now) (F.told files.old)) (λ told. Prepares (texts words.now) told prepared)) }
+    ensures cause { HasCause (F.faults files.old) (F.faults files.new) (IsOkAnd result (λ prepared. status_of prepared ≡ Some Status.ReadFault)) }
+    ensures words { IfOk result (λ prepared. status_of prepared ≡ Some Status.Words → IsErr (command (texts words.now))) }
+    ensures ends { IfOk result (λ prepared. (status_of prepared ≢ Some Status.Memory) × (status_of prepared ≢ Some Status.WriteFault)) }
+{
+    match read_words(alloc, words) {
+        Err(WordsStop::Memory) => Err(AllocError),
+        Err(WordsStop::BadWord(index)) => Ok(Prepared::Line(
+            format!(in alloc; "words: bad word at {index}\n")?,
+            Status::Words,
+        )),
+        Ok(
+            Command::Run {
+                steps,
+                answers,
+                query,
+                files: indices,
+            },
+        ) => {
+            let file = indices.as_slice()[0];
+            load(
+                alloc,
+                words[file].as_str(),
+                words[query].as_str(),
+                steps,
+                answers,
+                files,
+            )
+        }
+    }
+}
+
+// Reads the file and begins the search.
+fn load<F: Files>(
+    alloc: Global,
+    name: &str,
+    query: &str,
+    steps: u64,
+    answers: u64,
+    files: &mut F,
+) -> Result<Prepared, AllocError>
+    ensures told { F.told files.new ≡ F.told files.old }
+    ensures prepared { IfOk result (λ prepared. IfSome (F.told files.old) (λ told.
+        Loads name.now (bytes_of told name.now) (files_output steps answers query.now (with_file name.now (bytes_of told name.now) (Ok []))) prepared)) }
+    ensures cause { HasCause (F.faults files.old) (F.faults files.new) (IsOkAnd result (λ prepared. status_of prepared ≡ Some Status.ReadFault)) }
+    ensures status { IfOk result (λ prepared. IsFileStatus (status_of prepared)) }
+{
+    match files.read_file(name, FILE_LIMIT) {
+        Err(FileFail::Memory) => Err(AllocError),
+        Err(FileFail::Missing) => Ok(Prepared::Line(
+            format!(in alloc; "missing: {name}\n")?,
+            Status::Missing,
+        )),
+        Err(FileFail::TooLong) => Ok(Prepared::Line(
+            format!(in alloc; "too long: {name}\n")?,
+            Status::TooLong,
+        )),
+        Err(FileFail::Failed) => Ok(Prepared::Line(
+            format!(in alloc; "read fault: {name}\n")?,
+            Status::ReadFault,
+        )),
+        Ok(text) => begin(alloc, name, query, steps, answers, text.as_slice()),
+    }
+}
+
+// Begins the search of a text that was read.
+fn begin(
+    alloc: Global,
+    name: &str,
+    query: &str,
+    steps: u64,
+    answers: u64,
+    text: &[u8],
+) -> Result<Prepared, AllocError>
+    ensures prepared { IfOk result (λ prepared. texts_output steps answers query.now (with_items name.now (items_of 0 text.now) (Ok [])) ≡ prepared_output prepared) }
+    ensures status { IfOk result (λ prepared. IsTextStatus (status_of prepared)) }
+{
+    let mut symbols = Symbols::new(alloc)?;
+    match read_program(alloc, text, &mut symbols)? {
+        None => refuse(alloc, name),
+        Some(mut horn) => match read_query(alloc, query.as_bytes(), &mut symbols, &mut horn)? {
+            None => refuse(alloc, "query"),
+            Some(span) => Ok(Prepared::Search(Job {
+                machine: Machine::start(alloc, span)?,
+                horn,
+                steps,
+                answers,
+            })),
+        },
+    }
+}
+
+// The refusal of a text whose form isn't built.
+fn refuse(alloc: Global, name: &str) -> Result<Prepared, AllocError>
+    ensures prepared { IfOk result (λ prepared. prepared_output prepared ≡ not_yet name.now) }
+    ensures status { IfOk result (λ prepared. IsTextStatus (status_of prepared)) }
+{
+    Ok(Prepared::Line(
+        format!(in alloc; "refused: {name}: not yet\n")?,
+        Status::Refused,
+    ))
+}

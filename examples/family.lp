@@ -1,0 +1,3 @@
+parent anna bert.
+parent bert cora.
+elder :- parent anna bert, parent bert cora.

@@ -1,0 +1,7 @@
+tea :- water, leaves.
+water :- kettle.
+kettle.
+leaves :- shop.
+leaves :- garden.
+garden.
+shop.
