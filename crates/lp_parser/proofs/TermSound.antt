@@ -1,6 +1,6 @@
 -- What the machine reads the grammar accepts.
-use Rattle.std.proofs.Common.{◌≡◌, ℕ, ◌+◌, ◌<◌, ◌≤◌, ◌⊎◌, inl, inr, List, [], ◌∷◌, ◌++◌, refl, sym, ap, subst, ◌∙◌, append_assoc, append-nil, arith, Bool, true, false, cond, Option, Some, None, nat_le}
-use Rattle.std.proofs.lemmas.Bool.Decides.{leb_tells, nat_tests}
+use Rattle.std.proofs.Common.{◌≡◌, ℕ, ◌≤◌, inl, inr, List, [], ◌∷◌, ◌++◌, refl, ap, subst, Option, Some, None, nat_le}
+use Rattle.std.proofs.lemmas.Bool.Decides.{leb_tells}
 use Rattle.std.proofs.lemmas.Bool.{leb-true}
 use Rattle.std.proofs.lemmas.Option.{cond_some, same_Some}
 use Rattle.lp_parser.specs.declared.ast.Place.{Place}
@@ -20,7 +20,6 @@ use Rattle.lp_parser.specs.declared.state.State.{State}
 use Rattle.lp_parser.specs.declared.state.State.TheVariants as state
 use Rattle.lp_parser.specs.Grammar.{level, left_level, right_level, Shape, Closed, Phrase, tighter, infix_of, alone, applied, Simple, word, Atom, simple, Atoms, no_atom, atom_and}
 use Rattle.lp_parser.specs.TermMachine.{atom_of, joined, front_after, onto, attach, settle, settled_at, want, atom, front_at, stack_at, infixed, step}
-use Rattle.lp_parser.specs.declared.lexeme.Mark.{Mark}
 use Rattle.lp_parser.proofs.Levels.{wanted, one_level, wanted_nine}
 
 pub data IsFront : Front → List Lexeme → List Lexeme → Type 0 where

@@ -1,7 +1,6 @@
 -- What the texts that are built keep to, beside the grammar.
 use Rattle.std.specs.Prelude.{ℕ, ◌+◌, List, [], ◌∷◌, Bool, true, false, ◌&&◌, nat_le}
 use Rattle.std.specs.List.{list_all}
-use Rattle.lp_parser.specs.declared.ast.Operator.{Operator}
 use Rattle.lp_parser.specs.declared.ast.Operator.TheVariants.{Implied, Comma}
 use Rattle.lp_parser.specs.declared.ast.AstTerm.{AstTerm, out-AstTerm}
 use Rattle.lp_parser.specs.declared.ast.AstTerm.TheOpen.{AstTerm-F}

@@ -1,5 +1,5 @@
 -- What a list of lexemes is read as.
-use Rattle.std.specs.Prelude.{ℕ, List, [], ◌∷◌, Option, Some, None, Bool, ◌&&◌, if◌then◌else◌, IsTrue}
+use Rattle.std.specs.Prelude.{ℕ, List, [], Option, Some, None, Bool, if◌then◌else◌, IsTrue}
 use Rattle.lp_lexer.specs.Lexing.{Lexed}
 use Rattle.lp_parser.specs.declared.ast.AstTerm.{AstTerm}
 use Rattle.lp_parser.specs.declared.ast.Item.{Item}
