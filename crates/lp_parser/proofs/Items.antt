@@ -81,10 +81,12 @@ got_with : {all v : List Lexeme} {is js : List Item} → Got all is v → Progra
 got_with nothing_yet p = p
 got_with {all} {js} (and_one {is} {i} g a) p = subst (Program all) (sym (append_assoc is (i ∷ []) js)) (got_with g (item_and a p))
 
+-- the items is are read, and in this state the item behind them, up to these lexemes
 data At (all : List Lexeme) : List Item → ItemState → List Lexeme → Type 0 where
   between : {is : List Item} {v : List Lexeme} → Got all is v → At all is place.Between v
   in_term : {is : List Item} {c : Lexeme} {u v : List Lexeme} {q : State} → Got all is (c ∷ u) → Holds (c ∷ u) q v → At all is (place.Clause (place_of c) q) v
 
+-- .. where a lexeme leads
 data AtMoved (all : List Lexeme) (is : List Item) : Moved → List Lexeme → Type 0 where
   goes_to : {s : ItemState} {u : List Lexeme} → At all is s u → AtMoved all is (To s) u
   is_done : {i : Item} {u : List Lexeme} → Got all (is ++ i ∷ []) u → AtMoved all is (Done i) u

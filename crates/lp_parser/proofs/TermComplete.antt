@@ -30,6 +30,7 @@ and_goes (steps e g) h = steps e (and_goes g h)
 one_step : {q p : State} {c : Lexeme} {u : List Lexeme} → step q c ≡ Some p → Goes q (c ∷ u) p u
 one_step e = steps e stays
 
+-- a closed phrase
 abbrev pub IsClosed : Shape → Type 0
 IsClosed Closed = Unit {0}
 
