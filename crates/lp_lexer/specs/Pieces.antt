@@ -1,5 +1,5 @@
 -- What stands at the front of a text.
-use Rattle.std.specs.Prelude.{ℕ, ◌+◌, List, [], ◌∷◌, Bool, ◌&&◌, ◌||◌, ◌==◌, nat_lt, if◌then◌else◌, take}
+use Rattle.std.specs.Prelude.{ℕ, ◌+◌, List, [], ◌∷◌, ◌&&◌, ◌||◌, ◌==◌, nat_lt, if◌then◌else◌, take}
 use Rattle.lp_lexer.specs.declared.token.Symbol.TheVariants.{Implied, Comma, Dot}
 use Rattle.lp_lexer.specs.declared.token.TokenKind.TheVariants.{Name, Sym}
 use Rattle.lp_lexer.specs.declared.piece.Piece.{Piece}

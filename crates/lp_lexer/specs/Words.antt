@@ -1,5 +1,5 @@
 -- The words that are no names.
-use Rattle.std.specs.Prelude.{ℕ, List, [], ◌∷◌, ◌++◌, Bool, codes, bytes_eq}
+use Rattle.std.specs.Prelude.{ℕ, List, [], ◌∷◌, Bool, codes, bytes_eq}
 use Rattle.std.specs.List.{list_any}
 
 -- the keywords

@@ -16,6 +16,5 @@ mod words;
 pub use error::LexError;
 pub use laws::{one_list_of_tokens, tokens_in_order};
 pub use lex::tokens;
-pub use piece::Piece;
 pub use token::{Symbol, Token, TokenKind};
 pub use token_list::Tokens;

@@ -1,4 +1,5 @@
 use crate::error::LexError;
+use crate::laws::{one_list_of_tokens, tokens_in_order};
 use crate::lex::tokens;
 use crate::token::{Symbol, Token, TokenKind};
 use std::alloc::{AllocError, Global};
@@ -103,4 +104,10 @@ fn tokens_have_their_bytes(rt: HostRuntime) -> Result<(), Fail> {
             }
     );
     Ok(())
+}
+
+#[test]
+fn laws_are_called() {
+    one_list_of_tokens();
+    tokens_in_order();
 }

@@ -1,8 +1,7 @@
 -- The machine reads exactly the programs and the queries.
-use Rattle.std.proofs.Common.{◌≡◌, ℕ, ◌≤◌, List, [], ◌∷◌, ◌++◌, refl, sym, ap, subst, ◌∙◌, append_assoc, append-nil, arith, Option, Some, None}
+use Rattle.std.proofs.Common.{◌≡◌, List, [], ◌∷◌, ◌++◌, refl, sym, ap, subst, ◌∙◌, append_assoc, append-nil, arith, Option, Some, None}
 use Rattle.std.proofs.lemmas.Option.{same_Some}
 use Rattle.lp_parser.specs.declared.ast.Place.{Place}
-use Rattle.lp_parser.specs.declared.ast.Operator.{Operator}
 use Rattle.lp_parser.specs.declared.ast.AstTerm.{AstTerm}
 use Rattle.lp_parser.specs.declared.ast.Item.{Item}
 use Rattle.lp_parser.specs.declared.ast.Item.TheVariants as item
@@ -11,12 +10,11 @@ use Rattle.lp_parser.specs.declared.lexeme.Lexeme.{Lexeme}
 use Rattle.lp_parser.specs.declared.lexeme.Lexeme.TheVariants as lexeme
 use Rattle.lp_parser.specs.declared.state.Frame.{Frame}
 use Rattle.lp_parser.specs.declared.state.State.{State}
-use Rattle.lp_parser.specs.declared.state.State.TheVariants.{Want, Have}
+use Rattle.lp_parser.specs.declared.state.State.TheVariants.{Want}
 use Rattle.lp_parser.specs.declared.state.ItemState.{ItemState}
 use Rattle.lp_parser.specs.declared.state.ItemState.TheVariants as place
 use Rattle.lp_parser.specs.declared.state.Moved.{Moved}
 use Rattle.lp_parser.specs.declared.state.Moved.TheVariants.{To, Done}
-use Rattle.lp_parser.specs.Grammar.{Shape, Phrase}
 use Rattle.lp_parser.specs.Program.{place_of, ItemOf, clause, Program, no_item, item_and, Query, without_dot}
 use Rattle.lp_parser.specs.TermMachine.{step, settled_at}
 use Rattle.lp_parser.specs.ItemMachine.{whole, done, ends_clause, in_clause, move, moved, after, ended, term_after, finished}
@@ -83,10 +81,12 @@ got_with : {all v : List Lexeme} {is js : List Item} → Got all is v → Progra
 got_with nothing_yet p = p
 got_with {all} {js} (and_one {is} {i} g a) p = subst (Program all) (sym (append_assoc is (i ∷ []) js)) (got_with g (item_and a p))
 
+-- the items is are read, and in this state the item behind them, up to these lexemes
 data At (all : List Lexeme) : List Item → ItemState → List Lexeme → Type 0 where
   between : {is : List Item} {v : List Lexeme} → Got all is v → At all is place.Between v
   in_term : {is : List Item} {c : Lexeme} {u v : List Lexeme} {q : State} → Got all is (c ∷ u) → Holds (c ∷ u) q v → At all is (place.Clause (place_of c) q) v
 
+-- .. where a lexeme leads
 data AtMoved (all : List Lexeme) (is : List Item) : Moved → List Lexeme → Type 0 where
   goes_to : {s : ItemState} {u : List Lexeme} → At all is s u → AtMoved all is (To s) u
   is_done : {i : Item} {u : List Lexeme} → Got all (is ++ i ∷ []) u → AtMoved all is (Done i) u

@@ -1,5 +1,5 @@
 -- The table of operators.
-use Rattle.std.proofs.Common.{◌≡◌, ℕ, ◌+◌, ◌<◌, ◌≤◌, List, [], ◌∷◌, arith}
+use Rattle.std.proofs.Common.{ℕ, ◌≤◌, List, [], ◌∷◌, arith}
 use Rattle.lp_parser.specs.declared.ast.Operator.{Operator}
 use Rattle.lp_parser.specs.declared.ast.Operator.TheVariants.{Implied, Comma}
 use Rattle.lp_parser.specs.declared.state.Frame.{Frame}

@@ -1,15 +1,11 @@
 -- What the grammar accepts the machine reads, as the same tree.
-use Rattle.std.proofs.Common.{◌≡◌, ℕ, ◌+◌, ◌<◌, ◌≤◌, ◌⊎◌, inl, inr, List, [], ◌∷◌, ◌++◌, refl, sym, ap, subst, ◌∙◌, append_assoc, append-nil, arith, Bool, true, false, cond, Option, Some, None, nat_le}
+use Rattle.std.proofs.Common.{◌≡◌, ℕ, ◌≤◌, ◌⊎◌, inl, inr, List, [], ◌∷◌, ◌++◌, refl, ap, subst, ◌∙◌, append_assoc, append-nil, arith, Bool, true, false, cond, Option, Some, None, nat_le}
 use Rattle.std.proofs.lemmas.Bool.Decides.{leb_tells, nat_tests}
-use Rattle.std.proofs.lemmas.Bool.{leb-true}
-use Rattle.std.proofs.lemmas.Option.{cond_some, same_Some}
 use Rattle.lp_parser.specs.declared.ast.Place.{Place}
-use Rattle.lp_parser.specs.declared.ast.WordKind.{WordKind}
 use Rattle.lp_parser.specs.declared.ast.Operator.{Operator}
 use Rattle.lp_parser.specs.declared.ast.AstTerm.{AstTerm}
 use Rattle.lp_parser.specs.declared.ast.AstTerm.TheVariants as term
 use Rattle.lp_parser.specs.declared.lexeme.Lexeme.{Lexeme}
-use Rattle.lp_parser.specs.declared.lexeme.Lexeme.TheVariants as lexeme
 use Rattle.lp_parser.specs.declared.state.Front.{Front}
 use Rattle.lp_parser.specs.declared.state.Front.TheVariants as front
 use Rattle.lp_parser.specs.declared.state.Latest.{Latest}
@@ -34,6 +30,7 @@ and_goes (steps e g) h = steps e (and_goes g h)
 one_step : {q p : State} {c : Lexeme} {u : List Lexeme} → step q c ≡ Some p → Goes q (c ∷ u) p u
 one_step e = steps e stays
 
+-- a closed phrase
 abbrev pub IsClosed : Shape → Type 0
 IsClosed Closed = Unit {0}
 

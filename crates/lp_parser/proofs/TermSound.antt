@@ -1,6 +1,6 @@
 -- What the machine reads the grammar accepts.
-use Rattle.std.proofs.Common.{◌≡◌, ℕ, ◌+◌, ◌<◌, ◌≤◌, ◌⊎◌, inl, inr, List, [], ◌∷◌, ◌++◌, refl, sym, ap, subst, ◌∙◌, append_assoc, append-nil, arith, Bool, true, false, cond, Option, Some, None, nat_le}
-use Rattle.std.proofs.lemmas.Bool.Decides.{leb_tells, nat_tests}
+use Rattle.std.proofs.Common.{◌≡◌, ℕ, ◌≤◌, inl, inr, List, [], ◌∷◌, ◌++◌, refl, ap, subst, Option, Some, None, nat_le}
+use Rattle.std.proofs.lemmas.Bool.Decides.{leb_tells}
 use Rattle.std.proofs.lemmas.Bool.{leb-true}
 use Rattle.std.proofs.lemmas.Option.{cond_some, same_Some}
 use Rattle.lp_parser.specs.declared.ast.Place.{Place}
@@ -20,13 +20,14 @@ use Rattle.lp_parser.specs.declared.state.State.{State}
 use Rattle.lp_parser.specs.declared.state.State.TheVariants as state
 use Rattle.lp_parser.specs.Grammar.{level, left_level, right_level, Shape, Closed, Phrase, tighter, infix_of, alone, applied, Simple, word, Atom, simple, Atoms, no_atom, atom_and}
 use Rattle.lp_parser.specs.TermMachine.{atom_of, joined, front_after, onto, attach, settle, settled_at, want, atom, front_at, stack_at, infixed, step}
-use Rattle.lp_parser.specs.declared.lexeme.Mark.{Mark}
 use Rattle.lp_parser.proofs.Levels.{wanted, one_level, wanted_nine}
 
+-- the lexemes from u up to v are this front
 pub data IsFront : Front → List Lexeme → List Lexeme → Type 0 where
   nothing : {u : List Lexeme} → IsFront front.Nothing u u
   arguments : {u v w : List Lexeme} {h : AstTerm} {ts : List AstTerm} → Simple u v h → Atoms v w ts → IsFront (front.Applied h ts) u w
 
+-- the lexemes from u up to v are this atom
 pub data IsLatest : Latest → List Lexeme → List Lexeme → Type 0 where
   a_word : {k : WordKind} {x : List ℕ} {p : Place} {v : List Lexeme} → IsLatest (latest.Word k x p) (lexeme.Word k x p ∷ v) v
 
@@ -36,6 +37,7 @@ pub data Reading (all : List Lexeme) : List Frame → List Lexeme → Type 0 whe
   left : {s : List Frame} {u v : List Lexeme} {a : AstTerm} (o : Operator) (p : Place) → Reading all s u → wanted s ≤ level o
       → Phrase (left_level o) Closed u (lexeme.Infix o p ∷ v) a → Reading all (frame.Left o p a ∷ s) v
 
+-- the text all is read in this state up to these lexemes
 pub data Holds (all : List Lexeme) : State → List Lexeme → Type 0 where
   at_want : {s : List Frame} {v : List Lexeme} → Reading all s v → Holds all (state.Want s) v
   at_have : {s : List Frame} {u v w : List Lexeme} {f : Front} {l : Latest} → Reading all s u → IsFront f u v → IsLatest l v w → Holds all (state.Have f l s) w

@@ -1,5 +1,5 @@
 -- The machine that reads programs: where each lexeme leads.
-use Rattle.std.specs.Prelude.{ℕ, List, [], ◌∷◌, ◌++◌, Option, Some, None}
+use Rattle.std.specs.Prelude.{List, [], ◌∷◌, ◌++◌, Option, Some, None}
 use Rattle.lp_parser.specs.declared.ast.Place.{Place}
 use Rattle.lp_parser.specs.declared.ast.AstTerm.{AstTerm}
 use Rattle.lp_parser.specs.declared.ast.Item.{Item}
@@ -23,6 +23,7 @@ whole None = None
 whole (Some (t, [])) = Some t
 whole (Some (t, f ∷ s)) = None
 
+-- the clause that is over, with its place
 abbrev pub done : Place → Option AstTerm → Option Moved
 done p None = None
 done p (Some t) = Some (Done (item.Clause (record { term = t; place = p })))
@@ -33,10 +34,12 @@ ends_clause p (lexeme.Mark Dot d) q = done p (whole (settled_at q))
 ends_clause p (lexeme.Word k x d) q = None
 ends_clause p (lexeme.Infix o d) q = None
 
+-- a lexeme in the clause that began at the place p, where it leads the term to that state, or to none
 abbrev pub in_clause : Place → Option State → Lexeme → State → Option Moved
 in_clause p (Some q) c before = Some (To (place.Clause p q))
 in_clause p None c before = ends_clause p c before
 
+-- where a lexeme leads; a clause begins with a term
 abbrev pub move : ItemState → Lexeme → Option Moved
 move place.Between c = in_clause (place_of c) (step (Want []) c) c (Want [])
 move (place.Clause p q) c = in_clause p (step q c) c q

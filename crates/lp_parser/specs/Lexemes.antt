@@ -23,5 +23,6 @@ lexeme_at (kind.Sym symbol.Dot) x p = Mark mark.Dot p
 abbrev pub lexeme_of : ℕ → List ℕ → Token → Lexeme
 lexeme_of file text t = lexeme_at t.kind (text_at text t) (record { file = file; at = t.at })
 
+-- the lexemes of a text with tokens, in the file with that number
 abbrev pub lexemes_of : ℕ → Lexed → List Lexeme
 lexemes_of file l = map (lexeme_of file l.text) l.items

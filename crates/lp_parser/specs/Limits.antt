@@ -1,7 +1,6 @@
 -- What the texts that are built keep to, beside the grammar.
 use Rattle.std.specs.Prelude.{ℕ, ◌+◌, List, [], ◌∷◌, Bool, true, false, ◌&&◌, nat_le}
 use Rattle.std.specs.List.{list_all}
-use Rattle.lp_parser.specs.declared.ast.Operator.{Operator}
 use Rattle.lp_parser.specs.declared.ast.Operator.TheVariants.{Implied, Comma}
 use Rattle.lp_parser.specs.declared.ast.AstTerm.{AstTerm, out-AstTerm}
 use Rattle.lp_parser.specs.declared.ast.AstTerm.TheOpen.{AstTerm-F}
@@ -27,6 +26,7 @@ few_commas n (c ∷ u) = nat_le (counted n c) 1000 && few_commas (counted n c) u
 abbrev pub Layer : Type 0
 Layer = AstTerm-F AstTerm
 
+-- a level that is an atom
 abbrev pub is_atom_at : Layer → Bool
 is_atom_at (AstTerm-F.Word k x p) = true
 is_atom_at (AstTerm-F.App h ts) = true
@@ -36,6 +36,7 @@ is_atom_at (AstTerm-F.Op o p a b) = false
 abbrev pub is_atom : AstTerm → Bool
 is_atom t = is_atom_at (out-AstTerm t)
 
+-- a level that is a query
 abbrev pub is_built_query_at : Layer → Bool
 is_built_query_at (AstTerm-F.Word k x p) = true
 is_built_query_at (AstTerm-F.App h ts) = true
@@ -46,6 +47,7 @@ is_built_query_at (AstTerm-F.Op Comma p a b) = true
 abbrev pub is_built_query : AstTerm → Bool
 is_built_query t = is_built_query_at (out-AstTerm t)
 
+-- a level that is a clause
 abbrev pub is_built_clause_at : Layer → Bool
 is_built_clause_at (AstTerm-F.Word k x p) = true
 is_built_clause_at (AstTerm-F.App h ts) = true
@@ -56,6 +58,7 @@ is_built_clause_at (AstTerm-F.Op Comma p a b) = false
 abbrev pub is_built_clause : AstTerm → Bool
 is_built_clause t = is_built_clause_at (out-AstTerm t)
 
+-- an item: such a clause
 abbrev pub is_built_item : Item → Bool
 is_built_item (item.Clause c) = is_built_clause c.term
 

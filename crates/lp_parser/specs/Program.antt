@@ -1,5 +1,5 @@
 -- The grammar of items, programs and queries.
-use Rattle.std.specs.Prelude.{ℕ, List, [], ◌∷◌}
+use Rattle.std.specs.Prelude.{List, [], ◌∷◌}
 use Rattle.lp_parser.specs.declared.ast.Place.{Place}
 use Rattle.lp_parser.specs.declared.ast.AstTerm.{AstTerm}
 use Rattle.lp_parser.specs.declared.ast.Item.{Item}

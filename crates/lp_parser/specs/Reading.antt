@@ -1,5 +1,5 @@
 -- What a list of lexemes is read as.
-use Rattle.std.specs.Prelude.{ℕ, List, [], ◌∷◌, Option, Some, None, Bool, ◌&&◌, if◌then◌else◌, IsTrue}
+use Rattle.std.specs.Prelude.{ℕ, List, [], Option, Some, None, Bool, if◌then◌else◌, IsTrue}
 use Rattle.lp_lexer.specs.Lexing.{Lexed}
 use Rattle.lp_parser.specs.declared.ast.AstTerm.{AstTerm}
 use Rattle.lp_parser.specs.declared.ast.Item.{Item}
@@ -20,10 +20,11 @@ tested test (Some x) = if test x then Some x else None
 abbrev pub limited : {A : Type 0} → List Lexeme → Option A → Option A
 limited u o = if few_commas 0 u then o else None
 
--- what the machine reads as items, and as a term
+-- what the machine reads as items
 abbrev pub read_items : List Lexeme → Option (List Item)
 read_items u = limited u (ended (after (Some ([], Between)) u))
 
+-- what the machine reads as a term
 abbrev pub read_term : List Lexeme → Option AstTerm
 read_term u = limited u (finished (term_after (Some (Want [])) u))
 

@@ -16,6 +16,7 @@ use Rattle.lp_parser.specs.declared.state.State.{State}
 use Rattle.lp_parser.specs.declared.state.State.TheVariants.{Want, Have}
 use Rattle.lp_parser.specs.Grammar.{level, left_level, right_level}
 
+-- the atom as a term
 abbrev pub atom_of : Latest → AstTerm
 atom_of (latest.Word k x p) = term.Word k x p
 
@@ -44,6 +45,7 @@ abbrev pub settle : AstTerm → List Frame → AstTerm × List Frame
 settle t (frame.Left q r a ∷ s) = settle (term.Op q r a t) s
 settle t [] = (t, [])
 
+-- an operand is awaited on this stack
 abbrev pub want : Option (List Frame) → Option State
 want None = None
 want (Some s) = Some (Want s)
@@ -58,6 +60,7 @@ abbrev pub front_at : State → Option Front
 front_at (Want s) = Some front.Nothing
 front_at (Have f l s) = front_after f l
 
+-- the phrases that are not over
 abbrev pub stack_at : State → List Frame
 stack_at (Want s) = s
 stack_at (Have f l s) = s
@@ -67,6 +70,7 @@ abbrev pub settled_at : State → Option (AstTerm × List Frame)
 settled_at (Want s) = None
 settled_at (Have f l s) = Some (settle (joined f (atom_of l)) s)
 
+-- the state behind an operator
 abbrev pub infixed : State → Operator → Place → Option State
 infixed (Want s) o p = None
 infixed (Have f l s) o p = want (attach o p 9 (joined f (atom_of l)) s)

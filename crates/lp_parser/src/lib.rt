@@ -22,5 +22,3 @@ pub use laws::{one_program, one_query};
 pub use lexeme::{Lexeme, Mark};
 pub use parse::{parse_program, parse_query};
 pub use program::Ast;
-pub use stack::Stack;
-pub use state::{Frame, Front, ItemState, Latest, Moved, State};

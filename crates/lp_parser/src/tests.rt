@@ -1,5 +1,6 @@
 use crate::ast::{AstTerm, Item, Operator, Place};
 use crate::error::ParseError;
+use crate::laws::{one_program, one_query};
 use crate::parse::{parse_program, parse_query};
 use lp_lexer::tokens;
 use std::alloc::Global;
@@ -152,4 +153,10 @@ fn a_query_has_its_term(rt: HostRuntime) -> Result<(), Fail> {
     assert!(rt; at == Place { file: 0, at: 2 });
     assert!(rt; word(first).ok_or("no word")?.0 == b"p".as_slice());
     Ok(())
+}
+
+#[test]
+fn laws_are_called() {
+    one_program();
+    one_query();
 }

@@ -1,7 +1,6 @@
-use Rattle.std.proofs.Common.{rules, arith, sym, length, drop}
-use Rattle.std.proofs.lemmas.Grind.{common_steps}
+use Rattle.std.proofs.Common.{arith, sym, drop}
 use Rattle.lp_lexer.proofs.Pieces.{lexeme_some}
-use Rattle.lp_lexer.proofs.Lists.{IsBehind, begins, is_rest, room, behind_blank, behind_lexeme}
+use Rattle.lp_lexer.proofs.Lists.{begins, is_rest, room, behind_blank, behind_lexeme}
 use Rattle.lp_lexer.proofs.lex.token_list.Goals as goal
 
 pub loop-list-init : goal.loop-list-init

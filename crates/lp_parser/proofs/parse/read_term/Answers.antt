@@ -1,9 +1,9 @@
-use Rattle.std.proofs.Common.{rules, ◌+◌, ◌<◌, ◌≤◌, [], arith, refl, subst, sym, ◌∙◌}
+use Rattle.std.proofs.Common.{rules, ◌+◌, ◌<◌, ◌≤◌, [], refl, subst, sym, ◌∙◌}
 use Rattle.lp_parser.specs.declared.state.State.TheVariants.{Want}
 use Rattle.lp_parser.specs.TermMachine.{step}
 use Rattle.lp_parser.specs.ItemMachine.{finished}
 use Rattle.lp_parser.specs.Lexemes.{lexeme_of, lexemes_of}
-use Rattle.lp_parser.proofs.Outcome.{IsBehind, begins, at_index, nothing_left, at_end, too_many, no_step, one_step}
+use Rattle.lp_parser.proofs.Outcome.{IsBehind, at_index, too_many, no_step, one_step}
 use Rattle.lp_parser.proofs.parse.read_term.Goals as goal
 
 pub returns-then-commas-gt-MAX_COMMAS-clause-not_yet :
