@@ -10,3 +10,8 @@ pub mod HornEvents
 pub mod Progress
 pub mod Begins
 pub mod Whole
+pub mod SymbolPlaces
+pub mod Parsed
+pub mod Converted
+pub mod Kept
+pub mod Arities

@@ -9,7 +9,7 @@ ghost use Rattle.elpi_cli.specs.Conversion.{BeginsReserved, IsWordOf, are_words,
 
 use crate::horn::{Atom, Horn, HornClause, Span};
 use crate::symbols::Symbols;
-use lp_parser::{Ast, AstGoal, AstTerm, Item, Operator};
+use lp_parser::{Ast, AstGoal, AstTerm, Clause, Item, Operator};
 use ref_terms::Sequence;
 use std::alloc::{AllocError, Global};
 
@@ -40,14 +40,21 @@ fn intern_term(term: &AstTerm, symbols: &mut Symbols) -> Result<(), AllocError>
     Ok(())
 }
 
+// The clause that an item is.
+fn clause_in(item: &Item) -> &Clause
+    ensures { item.now ≡ Item.Clause result.now }
+{
+    match item {
+        Item::Clause(clause) => clause,
+    }
+}
+
 // Puts the texts of the items' words last in the table, each where it is new.
 fn intern_items(items: &[Item], symbols: &mut Symbols) -> Result<(), AllocError>
     ensures { OnOk result (symbols.new ≡ interned_all symbols.old (words_of_items items.now)) }
 {
     for item in items {
-        match item {
-            Item::Clause(clause) => intern_term(&clause.term, symbols)?,
-        }
+        intern_term(&clause_in(item).term, symbols)?;
     }
     Ok(())
 }
@@ -123,7 +130,11 @@ fn read_goal(
 {
     let start = atoms.len();
     let mut rest = term;
-    while let AstTerm::Op(Operator::Comma, _, left, right) = rest {
+    while let AstTerm::Op(operator, _, left, right) = rest {
+        match operator {
+            Operator::Comma => {}
+            Operator::Implied => return Ok(None),
+        }
         match read_atom(alloc, left.get(), symbols)? {
             Some(atom) => atoms.push(atom)?,
             None => return Ok(None),
@@ -194,11 +205,9 @@ fn read_clauses(alloc: Global, items: &[Item], symbols: &Symbols) -> Result<Opti
         places: Sequence::new(alloc),
     };
     for item in items {
-        match item {
-            Item::Clause(clause) => match read_clause(alloc, &clause.term, symbols, &mut horn.atoms)? {
-                Some(clause) => horn.clauses.push(clause)?,
-                None => return Ok(None),
-            },
+        match read_clause(alloc, &clause_in(item).term, symbols, &mut horn.atoms)? {
+            Some(clause) => horn.clauses.push(clause)?,
+            None => return Ok(None),
         }
     }
     Ok(Some(horn))

@@ -1,6 +1,6 @@
 // The table of symbols.
-ghost use Rattle.std.specs.Prelude.{◌≡◌, [], ◌<◌, length, IfOk, OnOk, OnErr};
-ghost use Rattle.elpi_cli.specs.Symbols.{reserved_names, number_of, interned};
+ghost use Rattle.std.specs.Prelude.{◌≡◌, length, map, IfOk, OnOk, OnErr};
+ghost use Rattle.elpi_cli.specs.Symbols.{reserved_names, number_of, interned, interned_all};
 
 use indexmap::IndexSet;
 use std::alloc::{AllocError, Global};
@@ -56,10 +56,18 @@ impl Symbols {
         let mut symbols = Symbols {
             texts: IndexSet::new(alloc),
         };
-        for name in RESERVED {
-            symbols.intern(name.as_bytes())?;
-        }
+        symbols.intern_all(&RESERVED)?;
         Ok(symbols)
+    }
+
+    // Puts these texts last, each where it is new.
+    fn intern_all(&mut self, texts: &[&str]) -> Result<(), AllocError>
+        ensures { OnOk result (self.new ≡ interned_all self.old (map (λ text. text.now) texts.now)) }
+    {
+        for text in texts {
+            self.intern(text.as_bytes())?;
+        }
+        Ok(())
     }
 
     // The number of texts.
