@@ -174,13 +174,15 @@ goal-last table old atoms new t rest atom start end so is e es ee =
     let size : length new ≡ length old + (length so.pushed + 1) = ap (λ (zs : List Atom). length zs) grown ∙ length-append old (so.pushed ++ atom ∷ []) ∙ ap (λ (n : ℕ). length old + n) (length-append so.pushed (atom ∷ [])) in
     let more : length (so.pushed ++ atom ∷ []) ≡ length so.pushed + 1 = length-append so.pushed (atom ∷ []) in
     let dropped : drop start new ≡ so.pushed ++ atom ∷ [] = ap (λ (zs : List Atom). drop start zs) grown ∙ drop_at old (so.pushed ++ atom ∷ []) start (sym es) in
-    let read : atoms_of new (record { start = start; end = end }) ≡ so.pushed ++ atom ∷ [] = ap (λ (zs : List Atom). take (end - start) zs) dropped ∙ take_all (end - start) (so.pushed ++ atom ∷ []) (omega (arith, size, more, es, ee)) in
-    (record {
-      form = so.form ∙ atom-is-conjunction (form_of rest) is.form;
-      term = ap conjunction read ∙ sym (joined-last so.pushed atom) ∙ ap (λ (s : Term). joined so.pushed s) (sym is.term) ∙ sym so.term;
-      some = omega (arith, size, es, ee);
-      within = omega (arith, ee);
-    }, (so.pushed ++ atom ∷ [], grown, free-last so.pushed atom so.free is.free))
+    let read : atoms_of new (record { start = start; end = end }) ≡ so.pushed ++ atom ∷ [] = ap (λ (zs : List Atom). take (end - start) zs) dropped ∙ take_all (end - start) (so.pushed ++ atom ∷ []) (omega (arith, size, more, es, ee)) in (
+      record {
+        form = so.form ∙ atom-is-conjunction (form_of rest) is.form;
+        term = ap conjunction read ∙ sym (joined-last so.pushed atom) ∙ ap (λ (s : Term). joined so.pushed s) (sym is.term) ∙ sym so.term;
+        some = omega (arith, size, es, ee);
+        within = omega (arith, ee);
+      },
+      (so.pushed ++ atom ∷ [], grown, free-last so.pushed atom so.free is.free),
+    )
 
 -- a term that isn't a `,` is a conjunction where it is an atom
 word-form : (b : Bool) → is_conjunction (form_where b a_word) ≡ is_atom (form_where b a_word)

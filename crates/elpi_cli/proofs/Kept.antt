@@ -79,9 +79,9 @@ still-within n m le (c ∷ cs) within =
     let first = true-le c.body.end m (omega (arith, le, le-of c.body.end n (and-first (ends_within n c) (list_all (ends_within n) cs) within))) in
     let rest = still-within n m le cs (and-second (ends_within n c) (list_all (ends_within n) cs) within) in
     both (ends_within m c) (list_all (ends_within m) cs) first rest where
-  both : (a b : Bool) → IsTrue a → IsTrue b → IsTrue (a && b)
-  both true b h g = g
-  both false b h g = h
+      both : (a b : Bool) → IsTrue a → IsTrue b → IsTrue (a && b)
+      both true b h g = g
+      both false b h g = h
 
 -- what stays where atoms are put last
 pub record Stays (old new : List Atom) (cs : List HornClause) : Type 0 where
