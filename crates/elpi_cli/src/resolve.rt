@@ -79,7 +79,11 @@ fn read_word(term: &AstTerm, symbols: &Symbols) -> Option<usize>
 }
 
 // The numbers of words.
-fn read_words(alloc: Global, terms: &[AstTerm], symbols: &Symbols) -> Result<Option<Sequence<usize>>, AllocError>
+fn read_words(
+    alloc: Global,
+    terms: &[AstTerm],
+    symbols: &Symbols,
+) -> Result<Option<Sequence<usize>>, AllocError>
     requires reserved { BeginsReserved symbols.now }
     ensures { IfOk result (λ answer. MatchOption answer (are_words terms.now ≡ false) (AreWordsOf symbols.now terms.now)) }
 {
@@ -108,7 +112,10 @@ fn read_atom(alloc: Global, term: &AstTerm, symbols: &Symbols) -> Result<Option<
         },
         AstTerm::App(head, arguments) => match read_word(head.get(), symbols) {
             Some(constant) => match read_words(alloc, arguments.as_slice(), symbols)? {
-                Some(arguments) => Ok(Some(Atom { constant, arguments })),
+                Some(arguments) => Ok(Some(Atom {
+                    constant,
+                    arguments,
+                })),
                 None => Ok(None),
             },
             None => Ok(None),
@@ -154,7 +161,11 @@ fn read_goal(
 }
 
 // A clause without body.
-fn read_fact(alloc: Global, term: &AstTerm, symbols: &Symbols) -> Result<Option<HornClause>, AllocError>
+fn read_fact(
+    alloc: Global,
+    term: &AstTerm,
+    symbols: &Symbols,
+) -> Result<Option<HornClause>, AllocError>
     requires reserved { BeginsReserved symbols.now }
     ensures { IfOk result (λ answer. MatchOption answer (is_atom (form_of term.now) ≡ false) (IsFactOf symbols.now term.now)) }
 {
@@ -195,7 +206,11 @@ fn read_clause(
 }
 
 // The clauses of the items, with the atoms of their bodies; no places yet.
-fn read_clauses(alloc: Global, items: &[Item], symbols: &Symbols) -> Result<Option<Horn>, AllocError>
+fn read_clauses(
+    alloc: Global,
+    items: &[Item],
+    symbols: &Symbols,
+) -> Result<Option<Horn>, AllocError>
     requires reserved { BeginsReserved symbols.now }
     ensures { IfOk result (λ answer. MatchOption answer (list_all is_horn_item items.now ≡ false) (AreClausesOf symbols.now items.now)) }
 {
@@ -214,7 +229,11 @@ fn read_clauses(alloc: Global, items: &[Item], symbols: &Symbols) -> Result<Opti
 }
 
 // Makes room for the places of a constant's clauses.
-fn reach(alloc: Global, places: &mut Vec<Sequence<usize>>, constant: usize) -> Result<(), AllocError>
+fn reach(
+    alloc: Global,
+    places: &mut Vec<Sequence<usize>>,
+    constant: usize,
+) -> Result<(), AllocError>
     ensures same { (c : ℕ) → slice_index_or places.new.items c [] ≡ slice_index_or places.old.items c [] }
     ensures reached { OnOk result (constant < length places.new.items) }
 {
@@ -225,7 +244,10 @@ fn reach(alloc: Global, places: &mut Vec<Sequence<usize>>, constant: usize) -> R
 }
 
 // For each constant, by its number, the places of the clauses that it heads.
-fn index_clauses(alloc: Global, clauses: &[HornClause]) -> Result<Sequence<Sequence<usize>>, AllocError>
+fn index_clauses(
+    alloc: Global,
+    clauses: &[HornClause],
+) -> Result<Sequence<Sequence<usize>>, AllocError>
     ensures { IfOk result (λ places. (c : ℕ) → slice_index_or places c [] ≡ places_of c 0 clauses.now) }
 {
     let mut places = Vec::new(alloc);
@@ -264,7 +286,11 @@ impl Horn {
 }
 
 // The program of the items, where it is built; their words go into the table.
-pub fn resolve_program(alloc: Global, ast: &Ast, symbols: &mut Symbols) -> Result<Option<Horn>, AllocError>
+pub fn resolve_program(
+    alloc: Global,
+    ast: &Ast,
+    symbols: &mut Symbols,
+) -> Result<Option<Horn>, AllocError>
     requires reserved { BeginsReserved symbols.old }
     ensures reserved { OnOk result (BeginsReserved symbols.new) }
     ensures table { OnOk result (symbols.new ≡ interned_all symbols.old (words_of_items ast.now)) }

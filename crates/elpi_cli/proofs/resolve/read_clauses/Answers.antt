@@ -1,4 +1,4 @@
-use Rattle.std.proofs.Common.{◌≡◌, ◌∷◌, ◌<◌, ◌+◌, List, ℕ, false, sym, ap, subst, ◌∙◌, drop, length, arith}
+use Rattle.std.proofs.Common.{◌≡◌, ◌∷◌, ◌<◌, ◌+◌, List, false, sym, ap, subst, ◌∙◌, drop, length, arith}
 use Rattle.std.proofs.lemmas.List.{drop_more}
 use Rattle.std.specs.Prelude.{MatchOption}
 use Rattle.std.specs.declared.option.Option.{Option}
@@ -19,8 +19,8 @@ loop-item-preserved c =
     let rest = drop (c.loop-item.item-index + 1) items in
     let fits : c.loop-item.item-index < length items = omega (arith, c.loop-item-test.true) in
     let opened : drop c.loop-item.item-index items ≡ item.Clause parsed ∷ rest =
-        drop_more items c.loop-item.item-index c.item-item.result fits ∙ ap (λ (i : Item). i ∷ rest) (sym c.item-item.is ∙ c.clause_in.ensures) in
+    drop_more items c.loop-item.item-index c.item-item.result fits ∙ ap (λ (i : Item). i ∷ rest) (sym c.item-item.is ∙ c.clause_in.ensures) in
     let so : ClausesRead table items old c.loop-item.horn.clauses (item.Clause parsed ∷ rest) = subst (λ (left : List Item). ClausesRead table items old c.loop-item.horn.clauses left) opened c.loop-item.invariant in
     let is : IsClauseOf table c.read_clause.new.atoms parsed.term c.in-Some.clause =
-        subst (λ (o : Option HornClause). MatchOption o (is_horn_clause parsed.term ≡ false) (IsClauseOf table c.read_clause.new.atoms parsed.term)) c.in-Some.is c.in_ok-clause.ensures.clause in
+    subst (λ (o : Option HornClause). MatchOption o (is_horn_clause parsed.term ≡ false) (IsClauseOf table c.read_clause.new.atoms parsed.term)) c.in-Some.is c.in_ok-clause.ensures.clause in
     clauses-more table items old c.read_clause.new.atoms c.loop-item.horn.clauses c.push.new.self parsed rest c.in-Some.clause so c.read_clause.ensures.grows is c.in_ok-push-in-Some.ensures.last

@@ -1,4 +1,4 @@
-use Rattle.std.proofs.Common.{◌≡◌, List, ℕ, false, sym, ap, subst, ◌∙◌}
+use Rattle.std.proofs.Common.{◌≡◌, false, sym, ap, subst, ◌∙◌}
 use Rattle.std.specs.Prelude.{MatchOption}
 use Rattle.std.specs.declared.option.Option.{Option}
 use Rattle.lp_parser.specs.declared.ast.AstTerm.{AstTerm}
@@ -30,5 +30,5 @@ returns-in_ok-push-in-Some-2-clause-goal c =
     let table = c.args.symbols.now in
     let rest = c.loop-rest.rest.now in
     let is : IsAtomOf table rest c.in-Some-2.atom =
-        subst (λ (o : Option Atom). MatchOption o (is_atom (form_of rest) ≡ false) (IsAtomOf table rest)) c.in-Some-2.is c.in_ok-atom-2.ensures in
+    subst (λ (o : Option Atom). MatchOption o (is_atom (form_of rest) ≡ false) (IsAtomOf table rest)) c.in-Some-2.is c.in_ok-atom-2.ensures in
     (goal-last table c.args.atoms.now c.loop-rest.atoms c.push-in-Some-2.new.self c.args.term.now rest c.in-Some-2.atom c.len-start.result c.len.result c.loop-rest.invariant is c.in_ok-push-in-Some-2.ensures.last c.len-start.ensures c.len.ensures).0

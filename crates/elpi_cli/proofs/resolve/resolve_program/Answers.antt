@@ -1,4 +1,4 @@
-use Rattle.std.proofs.Common.{◌≡◌, ℕ, List, [], true, false, sym, ap, ◌∙◌, subst, slice_index_or}
+use Rattle.std.proofs.Common.{◌≡◌, ℕ, List, [], false, sym, ap, ◌∙◌, subst, slice_index_or}
 use Rattle.std.specs.Prelude.{MatchOption}
 use Rattle.std.specs.List.{list_all}
 use Rattle.std.specs.declared.option.Option.{Option}
@@ -6,7 +6,6 @@ use Rattle.lp_parser.specs.declared.ast.Item.{Item}
 use Rattle.elpi_cli.specs.declared.horn.Horn.{Horn}
 use Rattle.elpi_cli.specs.declared.horn.HornClause.{HornClause}
 use Rattle.elpi_cli.specs.HornProgram.{places_of}
-use Rattle.elpi_cli.specs.Symbols.{interned_all}
 use Rattle.elpi_cli.specs.Resolve.{words_of_items, is_horn_item}
 use Rattle.elpi_cli.specs.Conversion.{AreClausesOf}
 use Rattle.elpi_cli.proofs.Kept.{still-reserved, program-built, program-unbuilt}
@@ -29,10 +28,10 @@ returns-then-heads_agree-clause-program c =
     let table = c.intern_items.new.symbols in
     let horn = c.in-Some.horn in
     let found : AreClausesOf table c.as_slice-2.result.now horn =
-        subst (λ (o : Option Horn). MatchOption o (list_all is_horn_item c.as_slice-2.result.now ≡ false) (AreClausesOf table c.as_slice-2.result.now)) c.in-Some.is c.in_ok-horn.ensures in
+    subst (λ (o : Option Horn). MatchOption o (list_all is_horn_item c.as_slice-2.result.now ≡ false) (AreClausesOf table c.as_slice-2.result.now)) c.in-Some.is c.in_ok-horn.ensures in
     let are : AreClausesOf table c.args.ast.now horn = subst (λ (items : List Item). AreClausesOf table items horn) c.as_slice-2.ensures found in
     let indexed : (k : ℕ) → slice_index_or c.in_ok-horn-in-Some.field-0 k [] ≡ places_of k 0 horn.clauses =
-        λ k. c.in_ok-horn-in-Some.ensures k ∙ ap (λ (clauses : List HornClause). places_of k 0 clauses) c.as_slice-in-Some.ensures in
+    λ k. c.in_ok-horn-in-Some.ensures k ∙ ap (λ (clauses : List HornClause). places_of k 0 clauses) c.as_slice-in-Some.ensures in
     program-built table c.args.ast.now horn c.in_ok-horn-in-Some.field-0 are indexed (sym c.if-heads_agree.ensures)
 
 pub returns-else-heads_agree-clause-program : goal.returns-else-heads_agree-clause-program
@@ -40,6 +39,6 @@ returns-else-heads_agree-clause-program c =
     let table = c.intern_items.new.symbols in
     let horn = c.in-Some.horn in
     let found : AreClausesOf table c.as_slice-2.result.now horn =
-        subst (λ (o : Option Horn). MatchOption o (list_all is_horn_item c.as_slice-2.result.now ≡ false) (AreClausesOf table c.as_slice-2.result.now)) c.in-Some.is c.in_ok-horn.ensures in
+    subst (λ (o : Option Horn). MatchOption o (list_all is_horn_item c.as_slice-2.result.now ≡ false) (AreClausesOf table c.as_slice-2.result.now)) c.in-Some.is c.in_ok-horn.ensures in
     let are : AreClausesOf table c.args.ast.now horn = subst (λ (items : List Item). AreClausesOf table items horn) c.as_slice-2.ensures found in
     program-unbuilt table c.args.ast.now horn are (sym c.if-heads_agree.ensures)
