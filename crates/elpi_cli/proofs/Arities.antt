@@ -1,17 +1,15 @@
 -- The places that are kept for each constant, and how many arguments its clause heads have.
-use Rattle.std.proofs.Common.{◌≡◌, ◌≢◌, ℕ, suc, ◌+◌, ◌<◌, Bool, true, false, cond, nat_eq, List, [], ◌∷◌, ◌++◌, length, map, take, replicate, Some, None, refl, ap, sym, subst, ◌∙◌, append_assoc, arith, slice_index_or, slice_set}
+use Rattle.std.proofs.Common.{◌≡◌, ◌≢◌, ℕ, suc, ◌+◌, ◌<◌, Bool, true, false, cond, nat_eq, List, [], ◌∷◌, ◌++◌, length, map, take, Some, None, refl, ap, sym, ◌∙◌, arith, slice_index_or, slice_set}
 use Rattle.std.proofs.lemmas.List.{append-nil, length-map, length-replicate, take_more, length-take-le, get_or-set_same, get_or-set_other, get_or_read}
 use Rattle.std.specs.List.{slice_get}
 use Rattle.std.specs.Option.{option_map_or}
-use Rattle.ref_terms.specs.terms.Term.{Term, Con}
-use Rattle.ref_terms.specs.search.Program.{Clause, constant_of, from_clauses}
-use Rattle.ref_terms.specs.unification.Spine.{args_of, head_of}
+use Rattle.ref_terms.specs.search.Program.{from_clauses}
 use Rattle.elpi_cli.specs.declared.horn.Atom.{Atom}
 use Rattle.elpi_cli.specs.declared.horn.HornClause.{HornClause}
 use Rattle.elpi_cli.specs.declared.horn.Horn.{Horn}
 use Rattle.elpi_cli.specs.HornSearch.{arity_at, places_for}
 use Rattle.elpi_cli.specs.HornProgram.{atom_term, clause_term, places_of}
-use Rattle.elpi_cli.specs.Resolve.{has_arity, head_agrees}
+use Rattle.elpi_cli.specs.Resolve.{head_agrees}
 use Rattle.elpi_cli.proofs.Constants.{constant, args-applied, head-applied}
 use Rattle.elpi_cli.proofs.Places.{modes_from, listed}
 
@@ -54,6 +52,7 @@ IsIndexed horn = (c : ℕ) → places_for horn c ≡ places_of c 0 horn.clauses
 modes-first : (horn : Horn) → IsIndexed horn → (c : ℕ) → from_clauses c (map (clause_term horn.atoms) horn.clauses) ≡ modes_from horn (places_for horn c)
 modes-first horn indexed c = (listed horn c [] horn.clauses refl).modes ∙ ap (λ (ps : List ℕ). modes_from horn ps) (sym (indexed c))
 
+-- the test of a head by the first of the places of its constant
 agrees-with : (horn : Horn) → IsIndexed horn → (head : Atom)
     → head_agrees (map (clause_term horn.atoms) horn.clauses) (atom_term head) ≡ option_map_or (λ (modes : List Bool). nat_eq (length head.arguments) (length modes)) (modes_from horn (places_for horn head.constant)) false
 agrees-with horn indexed head =

@@ -1,24 +1,21 @@
 -- Clauses whose bodies end within the atoms read as before where atoms are put last.
-use Rattle.std.proofs.Common.{◌≡◌, ℕ, ◌+◌, ◌-◌, ◌<◌, ◌≤◌, Bool, true, false, cond, nat_lt, nat_le, ◌&&◌, slice_index_or, List, [], ◌∷◌, ◌++◌, length, map, take, drop, Some, None, refl, ap, sym, subst, ◌∙◌, append_assoc, length-append, arith}
-use Rattle.std.proofs.lemmas.List.{append-nil, map-append, drop-append-le, take-append-le, length-drop}
+use Rattle.std.proofs.Common.{◌≡◌, ℕ, ◌-◌, ◌≤◌, Bool, true, false, cond, nat_lt, nat_le, ◌&&◌, slice_index_or, List, [], ◌∷◌, ◌++◌, length, map, take, drop, Some, None, refl, ap, sym, subst, ◌∙◌, append_assoc, length-append, arith}
+use Rattle.std.proofs.lemmas.List.{map-append, drop-append-le, take-append-le, length-drop}
 use Rattle.std.specs.Prelude.{IsTrue, if◌then◌else◌}
 use Rattle.std.specs.List.{list_all, list_any}
 use Rattle.std.specs.Str.{bytes_eq}
-use Rattle.std.specs.declared.option.Option.{Option}
-use Rattle.lp_parser.specs.declared.ast.AstTerm.{AstTerm}
 use Rattle.lp_parser.specs.declared.ast.Clause as parsed
 use Rattle.lp_parser.specs.declared.ast.Item.{Item}
 use Rattle.lp_parser.specs.declared.ast.Item.TheVariants as item
-use Rattle.ref_terms.specs.terms.Term.{Term}
 use Rattle.ref_terms.specs.search.Program.{Clause}
 use Rattle.elpi_cli.specs.declared.horn.Atom.{Atom}
 use Rattle.elpi_cli.specs.declared.horn.Span.{Span}
 use Rattle.elpi_cli.specs.declared.horn.HornClause.{HornClause}
 use Rattle.elpi_cli.specs.declared.horn.Horn.{Horn}
-use Rattle.elpi_cli.specs.HornSearch.{atoms_of, places_for}
+use Rattle.elpi_cli.specs.HornSearch.{atoms_of}
 use Rattle.elpi_cli.specs.HornProgram.{atom_term, conjunction, clause_term, places_of, is_free, IsProgram}
 use Rattle.elpi_cli.specs.Symbols.{reserved_names, interned, interned_all}
-use Rattle.elpi_cli.specs.Resolve.{clauses_of, is_horn_item, is_horn_clause, heads_agree, are_built_over}
+use Rattle.elpi_cli.specs.Resolve.{clauses_of, is_horn_item, heads_agree, are_built_over}
 use Rattle.elpi_cli.specs.Conversion.{BeginsReserved, Grows, IsClauseOf, AreClausesOf, IsProgramOf}
 use Rattle.elpi_cli.proofs.Converted.{all-append}
 
@@ -50,17 +47,21 @@ pub same-clause : (atoms more : List Atom) (c : HornClause) → c.body.end ≤ l
 same-clause atoms more c fits =
     ap (λ (zs : List Atom). let k : Clause = record { variables = 0; head = atom_term c.head; body = cond (nat_lt c.body.start c.body.end) (Some (conjunction zs)) None } in k) (same-atoms atoms more c.body fits)
 
+-- the first of two tests
 and-first : (a b : Bool) → IsTrue (a && b) → IsTrue a
 and-first true b h = refl
 and-first false b h = h
 
+-- the second of two tests
 and-second : (a b : Bool) → IsTrue (a && b) → IsTrue b
 and-second true b h = h
 and-second false b h = absurd (let bad = h in cc)
 
+-- the test of an order, and back
 le-of : (a b : ℕ) → IsTrue (nat_le a b) → a ≤ b
 le-of a b h = grind (arith, h)
 
+-- an order passes its test
 true-le : (a b : ℕ) → a ≤ b → IsTrue (nat_le a b)
 true-le a b h = grind (arith, h)
 
@@ -89,6 +90,7 @@ pub record Stays (old new : List Atom) (cs : List HornClause) : Type 0 where
   pub within : IsTrue (list_all (ends_within (length new)) cs)
   pub free : IsTrue (list_all (λ (a : Atom). is_free a.constant) new)
 
+-- what stays, from what was put last
 pub stays : (old new : List Atom) (cs : List HornClause) → Grows old new → IsTrue (list_all (ends_within (length old)) cs) → IsTrue (list_all (λ (a : Atom). is_free a.constant) old) → Stays old new cs
 stays old new cs grows within free =
     let longer : length old ≤ length new = omega (arith, ap (λ (zs : List Atom). length zs) grows.1 ∙ length-append old grows.0) in
@@ -105,13 +107,12 @@ pub record ClausesRead (table : List (List ℕ)) (items : List Item) (atoms : Li
   pub within : IsTrue (list_all (ends_within (length atoms)) cs)
   pub free : IsTrue (list_all (λ (a : Atom). is_free a.constant) atoms)
 
-pub clauses-begin : (table : List (List ℕ)) (items : List Item) → ClausesRead table items [] [] items
-clauses-begin table items = record { form = refl; clauses = refl; within = refl; free = refl }
-
+-- a list of one that passes
 one-true : (b : Bool) → IsTrue b → IsTrue (b && true)
 one-true true h = refl
 one-true false h = h
 
+-- one item more, whose clause was put last
 pub clauses-more : (table : List (List ℕ)) (items : List Item) (old new : List Atom) (cs ds : List HornClause) (k : parsed.Clause) (rest : List Item) (c : HornClause) → ClausesRead table items old cs (item.Clause k ∷ rest)
     → Grows old new → IsClauseOf table new k.term c → ds ≡ cs ++ c ∷ [] → ClausesRead table items new ds rest
 clauses-more table items old new cs ds k rest c so grows is e =
@@ -123,13 +124,6 @@ clauses-more table items old new cs ds k rest c so grows is e =
       free = kept.free;
     } in
     subst (λ (xs : List HornClause). ClausesRead table items new xs rest) (sym e) last
-
-pub clauses-all : (table : List (List ℕ)) (items : List Item) (horn : Horn) → ClausesRead table items horn.atoms horn.clauses [] → AreClausesOf table items horn
-clauses-all table items horn so = record { form = so.form; clauses = sym (so.clauses ∙ append-nil (map (clause_term horn.atoms) horn.clauses)); within = so.within; free = so.free }
-
-pub clauses-none : (table : List (List ℕ)) (items : List Item) (atoms : List Atom) (cs : List HornClause) (k : parsed.Clause) (rest : List Item) → ClausesRead table items atoms cs (item.Clause k ∷ rest)
-    → is_horn_clause k.term ≡ false → list_all is_horn_item items ≡ false
-clauses-none table items atoms cs k rest so none = so.form ∙ rw none refl
 
 -- a program stays one where atoms are put last
 pub program-stays : (horn : Horn) (atoms : List Atom) → IsProgram horn → Grows horn.atoms atoms → IsProgram (record { atoms = atoms; clauses = horn.clauses; places = horn.places })
@@ -162,9 +156,11 @@ interned-begins table text begins = at (list_any (bytes_eq text) table) where
   at true = begins
   at false = (begins.0 ++ text ∷ [], ap (λ (t : List (List ℕ)). t ++ text ∷ []) begins.1 ∙ append_assoc reserved_names begins.0 (text ∷ []))
 
+-- the same for several texts
 pub begins-reserved : (table : List (List ℕ)) (texts : List (List ℕ)) → BeginsReserved table → BeginsReserved (interned_all table texts)
 begins-reserved table [] begins = begins
 begins-reserved table (text ∷ texts) begins = begins-reserved (interned table text) texts (interned-begins table text begins)
 
+-- a table that got more texts
 pub still-reserved : (table new : List (List ℕ)) (texts : List (List ℕ)) → new ≡ interned_all table texts → BeginsReserved table → BeginsReserved new
 still-reserved table new texts e begins = subst BeginsReserved (sym e) (begins-reserved table texts begins)

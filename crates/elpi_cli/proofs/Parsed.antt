@@ -1,26 +1,20 @@
 -- The meanings of parsed terms, form by form.
-use Rattle.std.proofs.Common.{◌≡◌, ℕ, Bool, true, false, ◌&&◌, List, [], ◌∷◌, ◌++◌, map, refl, ap, sym, ◌∙◌}
-use Rattle.std.specs.Prelude.{flat_map, fold}
+use Rattle.std.proofs.Common.{◌≡◌, ℕ, ◌&&◌, List, [], ◌∷◌, ◌++◌, map, refl, ap, sym, ◌∙◌}
+use Rattle.std.specs.Prelude.{flat_map}
 use Rattle.std.specs.List.{list_all}
 use Rattle.lp_parser.specs.declared.ast.Place.{Place}
-use Rattle.lp_parser.specs.declared.ast.WordKind.{WordKind}
 use Rattle.lp_parser.specs.declared.ast.Operator.{Operator}
-use Rattle.lp_parser.specs.declared.ast.Operator.TheVariants.{Implied, Comma}
-use Rattle.lp_parser.specs.declared.ast.AstTerm.{AstTerm, out-AstTerm, fold-AstTerm, fold-roll-AstTerm}
-use Rattle.lp_parser.specs.declared.ast.AstTerm.TheVariants.{Word, App, Op, rolls-Word, rolls-App, rolls-Op}
+use Rattle.lp_parser.specs.declared.ast.Operator.TheVariants.{Comma}
+use Rattle.lp_parser.specs.declared.ast.AstTerm.{AstTerm, fold-AstTerm, fold-roll-AstTerm}
+use Rattle.lp_parser.specs.declared.ast.AstTerm.TheVariants.{App, Op, rolls-App, rolls-Op}
 use Rattle.lp_parser.specs.declared.ast.AstTerm.TheOpen.{AstTerm-F}
 use Rattle.ref_terms.specs.terms.Term as term
 use Rattle.ref_terms.specs.terms.Term.{Term, At, Con}
 use Rattle.ref_terms.specs.unification.Spine.{apply_all}
-use Rattle.elpi_cli.specs.Symbols.{number_of, reserved_names, interned, interned_all}
-use Rattle.elpi_cli.specs.HornProgram.{is_free}
-use Rattle.elpi_cli.specs.Resolve.{words_at, words_of, term_at, term_of, operator_number, Form, a_word, an_application, a_conjunction, another, form_at, form_of, form_where, is_word, is_atom, is_conjunction}
+use Rattle.elpi_cli.specs.Symbols.{interned, interned_all}
+use Rattle.elpi_cli.specs.Resolve.{words_at, words_of, term_at, term_of, operator_number, Form, an_application, a_conjunction, form_at, form_of, form_where, is_word, is_atom, is_conjunction}
 
--- a fold of a word
-pub fold-word : (A : Type 0) (step : AstTerm-F A → A) (k : WordKind) (x : List ℕ) (p : Place) → fold-AstTerm A step (Word k x p) ≡ step (AstTerm-F.Word k x p)
-fold-word A step k x p = ap (λ (t : AstTerm). fold-AstTerm A step t) (sym (rolls-Word k x p)) ∙ fold-roll-AstTerm A step (AstTerm-F.Word k x p)
-
--- of an application
+-- a fold of an application
 pub fold-app : (A : Type 0) (step : AstTerm-F A → A) (h : AstTerm) (ts : List AstTerm) → fold-AstTerm A step (App h ts) ≡ step (AstTerm-F.App (fold-AstTerm A step h) (map (fold-AstTerm A step) ts))
 fold-app A step h ts = ap (λ (t : AstTerm). fold-AstTerm A step t) (sym (rolls-App h ts)) ∙ fold-roll-AstTerm A step (AstTerm-F.App h ts)
 
@@ -33,36 +27,23 @@ pub flat-images : {A B : Type 0} (f : A → List B) (xs : List A) → flat_map (
 flat-images f [] = refl
 flat-images f (x ∷ xs) = ap (λ (ys : List _). f x ++ ys) (flat-images f xs)
 
--- the words of each form
-pub words-word : (k : WordKind) (x : List ℕ) (p : Place) → words_of (Word k x p) ≡ x ∷ []
-words-word k x p = fold-word (List (List ℕ)) words_at k x p
-
+-- the words of an application
 pub words-app : (h : AstTerm) (ts : List AstTerm) → words_of (App h ts) ≡ words_of h ++ flat_map words_of ts
 words-app h ts = fold-app (List (List ℕ)) words_at h ts ∙ ap (λ (xs : List (List ℕ)). words_of h ++ xs) (flat-images words_of ts)
 
-pub words-op : (o : Operator) (p : Place) (a b : AstTerm) → words_of (Op o p a b) ≡ words_of a ++ words_of b
-words-op o p a b = fold-op (List (List ℕ)) words_at o p a b
-
--- the terms of each form
-pub term-word : (table : List (List ℕ)) (k : WordKind) (x : List ℕ) (p : Place) → term_of table (Word k x p) ≡ At (Con (number_of table x))
-term-word table k x p = fold-word Term (term_at table) k x p
-
+-- the term of an application
 pub term-app : (table : List (List ℕ)) (h : AstTerm) (ts : List AstTerm) → term_of table (App h ts) ≡ apply_all (term_of table h) (map (term_of table) ts)
 term-app table h ts = fold-app Term (term_at table) h ts
 
+-- the term of an operator with its sides
 pub term-op : (table : List (List ℕ)) (o : Operator) (p : Place) (a b : AstTerm) → term_of table (Op o p a b) ≡ term.App (term.App (At (Con (operator_number o))) (term_of table a)) (term_of table b)
 term-op table o p a b = fold-op Term (term_at table) o p a b
 
--- the forms
-pub form-word : (k : WordKind) (x : List ℕ) (p : Place) → form_of (Word k x p) ≡ form_where (is_free (number_of reserved_names x)) a_word
-form-word k x p = fold-word Form form_at k x p
-
+-- the form of an application
 pub form-app : (h : AstTerm) (ts : List AstTerm) → form_of (App h ts) ≡ form_where (is_word (form_of h) && list_all is_word (map form_of ts)) an_application
 form-app h ts = fold-app Form form_at h ts
 
-pub form-implied : (p : Place) (a b : AstTerm) → form_of (Op Implied p a b) ≡ another
-form-implied p a b = fold-op Form form_at Implied p a b
-
+-- the form of a `,` with its sides
 pub form-comma : (p : Place) (a b : AstTerm) → form_of (Op Comma p a b) ≡ form_where (is_atom (form_of a) && is_conjunction (form_of b)) a_conjunction
 form-comma p a b = fold-op Form form_at Comma p a b
 

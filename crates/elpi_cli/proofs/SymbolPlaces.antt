@@ -1,5 +1,5 @@
 -- The places of texts in the table of symbols.
-use Rattle.std.proofs.Common.{◌≡◌, ℕ, suc, ◌+◌, ◌<◌, ◌≤◌, Bool, true, false, not, cond, nat_lt, ◌||◌, List, [], ◌∷◌, ◌++◌, length, map, Some, None, refl, ap, sym, ◌∙◌, length-append, arith}
+use Rattle.std.proofs.Common.{◌≡◌, ℕ, suc, ◌+◌, Bool, true, false, not, cond, nat_lt, ◌||◌, List, [], ◌∷◌, ◌++◌, length, map, Some, None, refl, ap, sym, ◌∙◌, arith}
 use Rattle.std.proofs.lemmas.List.{length-map, map-append}
 use Rattle.std.specs.Prelude.{position, if◌then◌else◌}
 use Rattle.std.specs.List.{list_any, position_or_len}
@@ -24,11 +24,12 @@ place-found p xs i e = at (nat_lt (position_or_len p xs) (length xs)) e where
   at true same = cc
   at false same = absurd (let bad = same in cc)
 
--- no place is found
+-- a first text that fails, and none behind it
 missing-step : (n m : ℕ) (b : Bool) (any : Bool) → (b || any) ≡ false → (any ≡ false → n ≡ m) → cond (not b) (1 + n) 0 ≡ suc m
 missing-step n m true any none rest = absurd (let bad = none in cc)
 missing-step n m false any none rest = omega (arith, rest none)
 
+-- no place is found
 pub place-missing : {A : Type 0} (p : A → Bool) (xs : List A) → list_any p xs ≡ false → position_or_len p xs ≡ length xs
 place-missing p [] none = refl
 place-missing p (x ∷ xs) none = missing-step (position_or_len p xs) (length xs) (p x) (list_any p xs) none (place-missing p xs)
@@ -56,9 +57,11 @@ module _ {A : Type 0} (f : A → List ℕ) (keys : List A) (table : List (List �
   pub none-there : false ≡ list_any (λ (k : A). bytes_eq text (f k)) keys → list_any (bytes_eq text) table ≡ false
   none-there none = ap (λ (t : List (List ℕ)). list_any (bytes_eq text) t) (sym same) ∙ any-map f (bytes_eq text) keys ∙ sym none
 
+  -- one is
   pub one-there : true ≡ list_any (λ (k : A). bytes_eq text (f k)) keys → list_any (bytes_eq text) table ≡ true
   one-there one = ap (λ (t : List (List ℕ)). list_any (bytes_eq text) t) (sym same) ∙ any-map f (bytes_eq text) keys ∙ sym one
 
+  -- the number of a text that is not there
   pub number-missing : false ≡ list_any (λ (k : A). bytes_eq text (f k)) keys → length keys ≡ number_of table text
   number-missing none = sym (length-map keys f) ∙ ap (λ (t : List (List ℕ)). length t) same ∙ sym (place-missing (bytes_eq text) table (none-there none))
 

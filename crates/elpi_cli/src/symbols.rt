@@ -1,5 +1,5 @@
 // The table of symbols.
-ghost use Rattle.std.specs.Prelude.{◌≡◌, length, map, IfOk, OnOk, OnErr};
+ghost use Rattle.std.specs.Prelude.{◌≡◌, map, IfOk, OnOk, OnErr};
 ghost use Rattle.elpi_cli.specs.Symbols.{reserved_names, number_of, interned, interned_all};
 
 use indexmap::IndexSet;
@@ -68,13 +68,6 @@ impl Symbols {
             self.intern(text.as_bytes())?;
         }
         Ok(())
-    }
-
-    // The number of texts.
-    pub fn len(&self) -> usize
-        ensures { result ≡ length self.now }
-    {
-        self.texts.len()
     }
 
     // The number of a text: its first place, or the number of texts where it has none. Takes no memory.

@@ -1,4 +1,4 @@
-use Rattle.std.proofs.Common.{◌≡◌, ℕ, List, [], sym, ap, ◌∙◌, subst, drop, length, arith}
+use Rattle.std.proofs.Common.{◌≡◌, List, sym, ap, ◌∙◌, arith}
 use Rattle.std.specs.Prelude.{flat_map}
 use Rattle.std.proofs.lemmas.List.{at_drop_all}
 use Rattle.lp_parser.specs.declared.ast.AstTerm.{AstTerm}

@@ -1,4 +1,4 @@
-use Rattle.std.proofs.Common.{◌≡◌, ◌<◌, ℕ, [], sym, ◌∙◌, length, arith, slice_index_or}
+use Rattle.std.proofs.Common.{◌<◌, ℕ, ◌∙◌, length, arith, slice_index_or}
 use Rattle.std.proofs.lemmas.List.{get_or_default}
 use Rattle.elpi_cli.proofs.Arities.{place-kept}
 use Rattle.elpi_cli.proofs.resolve.index_clauses.Goals as goal

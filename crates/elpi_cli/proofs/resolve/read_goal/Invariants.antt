@@ -1,4 +1,3 @@
-use Rattle.std.proofs.Common.{◌≡◌, length}
 use Rattle.elpi_cli.proofs.Converted.{GoalRead}
 use Rattle.elpi_cli.proofs.resolve.read_goal.Given as goal
 

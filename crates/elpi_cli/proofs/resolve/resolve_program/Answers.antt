@@ -1,4 +1,4 @@
-use Rattle.std.proofs.Common.{◌≡◌, ℕ, List, [], true, false, sym, ap, ◌∙◌, subst, slice_index_or}
+use Rattle.std.proofs.Common.{◌≡◌, ℕ, List, [], false, sym, ap, ◌∙◌, subst, slice_index_or}
 use Rattle.std.specs.Prelude.{MatchOption}
 use Rattle.std.specs.List.{list_all}
 use Rattle.std.specs.declared.option.Option.{Option}
@@ -6,7 +6,6 @@ use Rattle.lp_parser.specs.declared.ast.Item.{Item}
 use Rattle.elpi_cli.specs.declared.horn.Horn.{Horn}
 use Rattle.elpi_cli.specs.declared.horn.HornClause.{HornClause}
 use Rattle.elpi_cli.specs.HornProgram.{places_of}
-use Rattle.elpi_cli.specs.Symbols.{interned_all}
 use Rattle.elpi_cli.specs.Resolve.{words_of_items, is_horn_item}
 use Rattle.elpi_cli.specs.Conversion.{AreClausesOf}
 use Rattle.elpi_cli.proofs.Kept.{still-reserved, program-built, program-unbuilt}

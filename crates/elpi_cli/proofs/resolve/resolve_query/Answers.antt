@@ -1,4 +1,3 @@
-use Rattle.std.proofs.Common.{◌≡◌, List, ℕ, false, sym, ap, subst, ◌∙◌}
 use Rattle.elpi_cli.specs.Resolve.{words_of}
 use Rattle.elpi_cli.proofs.Kept.{still-reserved, program-stays, stays}
 use Rattle.elpi_cli.proofs.resolve.resolve_query.Goals as goal

@@ -1,4 +1,4 @@
-use Rattle.std.proofs.Common.{sym, ap, ◌∙◌}
+use Rattle.std.proofs.Common.{sym}
 use Rattle.elpi_cli.proofs.Arities.{agrees-some, agrees-none}
 use Rattle.elpi_cli.proofs.horn.Horn.head_agrees.Goals as goal
 

@@ -1,4 +1,4 @@
-use Rattle.std.proofs.Common.{ℕ, sym, ◌∙◌, Vec, Global}
+use Rattle.std.proofs.Common.{ℕ, ◌∙◌, Vec, Global}
 use Rattle.elpi_cli.proofs.SymbolPlaces.{number-found, number-new, table-found, table-new}
 use Rattle.elpi_cli.proofs.symbols.Symbols.intern.Goals as goal
 
