@@ -10,3 +10,6 @@ pub mod HornEvents
 pub mod Progress
 pub mod Begins
 pub mod Whole
+pub mod CausesSearch
+pub mod CausesTexts
+pub mod Causes
