@@ -15,3 +15,6 @@ pub mod Parsed
 pub mod Converted
 pub mod Kept
 pub mod Arities
+pub mod CausesSearch
+pub mod CausesTexts
+pub mod Causes

@@ -9,6 +9,7 @@ pub mod Symbols
 pub mod Resolve
 pub mod Texts
 pub mod Top
+pub mod Causes
 pub mod Begins
 pub mod Prepared
 pub mod Conversion

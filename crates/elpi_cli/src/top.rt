@@ -9,6 +9,7 @@ ghost use Rattle.elpi_cli.specs.Words.{texts, command};
 ghost use Rattle.elpi_cli.specs.Written.{IsStop, Emits};
 ghost use Rattle.elpi_cli.specs.Texts.{with_file, with_items, items_of, not_yet};
 ghost use Rattle.elpi_cli.specs.Top.{output, files_output, query_output, texts_output, word_at, known_files, IsRunOf, IsStatusOf};
+ghost use Rattle.elpi_cli.specs.Causes.{ComesBy, ComesExactlyBy, IsComplete, IsDone, IsNoAnswer, IsBadWord, IsRefused, IsFault, IsOutOfSteps, IsMissing, IsTooLong};
 ghost use Rattle.elpi_cli.specs.Prepared.{Prepares, Loads, prepared_output, status_of, IsFileStatus, IsTextStatus};
 
 use crate::horn::Horn;
@@ -38,10 +39,25 @@ pub fn run<F: Files, K: Sink>(
     ensures bytes { IfSome (known_files (texts words.now) (F.told files.old)) (λ told.
         Appended (K.told sink.old) (K.told sink.new) (IsRunOf (texts words.now) told (Rose (F.faults files.old) (F.faults files.new)) result)) }
 
-    // No status gives up: a fault comes only where its count rose, and the words are bad.
+    // No status gives up: a fault comes only where its count rose, and bad words are answered whatever is told.
     ensures read_fault { result ≡ Status.ReadFault → Rose (F.faults files.old) (F.faults files.new) }
     ensures write_fault { result ≡ Status.WriteFault → Rose (K.faults sink.old) (K.faults sink.new) }
-    ensures words { result ≡ Status.Words → IsErr (command (texts words.now)) }
+    ensures words { ComesExactlyBy (IsErr (command (texts words.now))) Status.Words result }
+
+    // Every other status has its cause, which the last line tells; so do bad words.
+    ensures done { IfSome (known_files (texts words.now) (F.told files.old)) (λ told. ComesBy (IsDone (texts words.now) told) (output (texts words.now) told) Status.Done result) }
+    ensures no_answer { IfSome (known_files (texts words.now) (F.told files.old)) (λ told. ComesBy (IsNoAnswer (texts words.now) told) (output (texts words.now) told) Status.NoAnswer result) }
+    ensures bad_word { IfSome (known_files (texts words.now) (F.told files.old)) (λ told. ComesBy (IsBadWord (texts words.now)) (output (texts words.now) told) Status.Words result) }
+    ensures refused { IfSome (known_files (texts words.now) (F.told files.old)) (λ told. ComesBy (IsRefused (texts words.now) told) (output (texts words.now) told) Status.Refused result) }
+    ensures fault { IfSome (known_files (texts words.now) (F.told files.old)) (λ told. ComesBy (IsFault (texts words.now) told) (output (texts words.now) told) Status.Fault result) }
+    ensures budget { IfSome (known_files (texts words.now) (F.told files.old)) (λ told. ComesBy (IsOutOfSteps (texts words.now) told) (output (texts words.now) told) Status.Budget result) }
+    ensures missing { IfSome (known_files (texts words.now) (F.told files.old)) (λ told. ComesBy (IsMissing (texts words.now) told) (output (texts words.now) told) Status.Missing result) }
+    ensures too_long { IfSome (known_files (texts words.now) (F.told files.old)) (λ told. ComesBy (IsTooLong (texts words.now) told) (output (texts words.now) told) Status.TooLong result) }
+
+    // Where no read and no write failed in this call, status and bytes are the reference's, unless memory was wanting.
+    ensures complete { IfSome (known_files (texts words.now) (F.told files.old)) (λ told.
+        ¬ Rose (F.faults files.old) (F.faults files.new) → ¬ Rose (K.faults sink.old) (K.faults sink.new) →
+        IsComplete (output (texts words.now) told) (K.told sink.old) (K.told sink.new) result) }
 
     // Nothing is written after a failed write.
     ensures stopped { IsStop (K.told sink.old) (K.told sink.new) (K.stopped sink.old) (K.stopped sink.new) result }

@@ -1,0 +1,220 @@
+-- The causes of a run's statuses.
+use Rattle.std.proofs.Common.{◌≡◌, ℕ, Bool, true, false, List, [], ◌∷◌, ◌++◌, ◌⊎◌, map, length, inl, inr, refl, ap, sym, subst, ◌∙◌, zero-add, None, Some, Ok, Err, IfSome, IsErr, codes}
+use Rattle.std.specs.Fmt.{decimal}
+use Rattle.std.specs.List.{concat}
+use Rattle.std.specs.declared.option.Option.{Option}
+use Rattle.std.specs.declared.result.Result.{Result}
+use Rattle.lam_io.specs.declared.byte_text.FileEntry.{FileEntry}
+use Rattle.lam_io.specs.Reads.{bytes_of}
+use Rattle.lam_io.specs.Writes.{Appended}
+use Rattle.lp_parser.specs.declared.ast.AstGoal.{AstGoal}
+use Rattle.lp_parser.specs.declared.ast.Item.{Item}
+use Rattle.ref_terms.specs.unification.Unification.{unify}
+use Rattle.ref_terms.specs.search.Program.{Program, Query}
+use Rattle.ref_terms.specs.search.State.{Event}
+use Rattle.ref_terms.specs.search.Events.{events, first_state}
+use Rattle.elpi_cli.specs.declared.words.Command.{Command}
+use Rattle.elpi_cli.specs.declared.words.Command.TheVariants.{Run}
+use Rattle.elpi_cli.specs.declared.status.Status.{Status}
+use Rattle.elpi_cli.specs.declared.status.Status.TheVariants.{Done, NoAnswer, Words, Refused, Fault, Budget, Missing, TooLong, ReadFault, WriteFault, Memory}
+use Rattle.elpi_cli.specs.Words.{command}
+use Rattle.elpi_cli.specs.Output.{Output, line, written, searched}
+use Rattle.elpi_cli.specs.Resolve.{program_of, query_of}
+use Rattle.elpi_cli.specs.Texts.{files_read, items_of, items_read, goal_of, not_yet}
+use Rattle.elpi_cli.specs.Top.{output, command_output, files_output, texts_output, query_output, word_at, file_names, files_for, known_files, IsReached, IsStatusOf, IsRunOf}
+use Rattle.elpi_cli.specs.Causes.{EndsWith, IsFailure, ComesBy, ComesExactlyBy, IsComplete, IsBadWord, IsMissing, IsTooLong, IsReady, IsUnbuiltFile, IsUnbuiltQuery, IsRefused, Searches, Shows, IsFault, IsOutOfSteps, IsNoAnswer, IsDone, HasNoMore, HasStopped}
+use Rattle.elpi_cli.proofs.CausesSearch.{SearchCause, IsCaused, search-cause, search-status}
+use Rattle.elpi_cli.proofs.CausesTexts.{IsFileRefusal, HasFileRefusal, HasTextRefusal, within-files, missing-file, long-file, refused-file, unbuilt-file, built-items, refused-text, all-built, missing_line, too_long_line}
+
+-- the cause of a run's status
+abbrev pub CauseOf : List (List ℕ) → List FileEntry → Status → List ℕ → Type 0
+CauseOf words told Done last = IsDone words told last
+CauseOf words told NoAnswer last = IsNoAnswer words told last
+CauseOf words told Words last = IsBadWord words last
+CauseOf words told Refused last = IsRefused words told last
+CauseOf words told Fault last = IsFault words told last
+CauseOf words told Budget last = IsOutOfSteps words told last
+CauseOf words told Missing last = IsMissing words told last
+CauseOf words told TooLong last = IsTooLong words told last
+CauseOf words told status last = ⊥
+
+-- an output has the cause of its status
+abbrev pub HasCauseIn : List (List ℕ) → List FileEntry → Output → Type 0
+HasCauseIn words told out = (last : List ℕ) × CauseOf words told out.status last × EndsWith out last
+
+-- the cause of a search is one of the run
+of-search : (words : List (List ℕ)) (told : List FileEntry) (limit : ℕ) (shown : List Event) → Shows words told limit shown → (status : Status) (last : List ℕ) → SearchCause status limit shown last → CauseOf words told status last
+of-search words told limit shown shows Done last h = (limit, shown, shows, h)
+of-search words told limit shown shows NoAnswer last h = (limit, shown, shows, h)
+of-search words told limit shown shows Fault last h = (limit, shown, shows, h)
+of-search words told limit shown shows Budget last h = (limit, shown, shows, h)
+of-search words told limit shown shows status last h = absurd h
+
+by-goal : (words : List (List ℕ)) (told : List FileEntry) (steps answers : ℕ) (query : List ℕ) (files : List FileEntry) (items : List Item) (goal : Option AstGoal) → IsReady words told steps answers query files → items_read 0 files ≡ Ok items → goal_of query ≡ goal
+    → HasCauseIn words told (query_output steps answers items goal)
+by-goal words told steps answers query files items None ready read is =
+    (codes "refused: " ++ (codes "query" ++ line (codes ": not yet")), (steps, answers, query, files, codes "query", ready, inr (all-built 0 files items read, is, refl), refl), ([], refl))
+by-goal words told steps answers query files items (Some goal) ready read is =
+    let p = program_of items goal in
+    let q = query_of items goal in
+    let shown = events unify p steps (first_state q) in
+    let searches : Searches words told p q steps answers = record { text = query; files = files; items = items; goal = goal; ready = ready; items_are = read; goal_is = is; program_is = refl; query_is = refl } in
+    let found = search-cause p.symbols q.variables answers shown in
+    (found.0, of-search words told answers shown (p, q, steps, searches, refl) (written p.symbols q.variables answers 0 shown).status found.0 found.1, found.2)
+
+by-items : (words : List (List ℕ)) (told : List FileEntry) (steps answers : ℕ) (query : List ℕ) (files : List FileEntry) (r : Result (List Item) Output) → IsReady words told steps answers query files → items_read 0 files ≡ r
+    → HasCauseIn words told (texts_output steps answers query r)
+by-items words told steps answers query files (Err refusal) ready is =
+    let h = refused-text 0 files refusal is in
+    let unbuilt : IsUnbuiltFile files h.1.name = (h.0, h.1, h.2, h.3, h.4, subst (λ (n : ℕ). items_of n h.1.bytes ≡ None) (zero-add (length h.0)) h.5, refl) in
+    subst (HasCauseIn words told) (sym h.6)
+    (codes "refused: " ++ (h.1.name ++ line (codes ": not yet")), (steps, answers, query, files, h.1.name, ready, inl unbuilt, refl), ([], refl))
+by-items words told steps answers query files (Ok items) ready is = by-goal words told steps answers query files items (goal_of query) ready is refl
+
+-- why a file is refused, for the command that names it
+by-refusal : (words : List (List ℕ)) (told : List FileEntry) (name : List ℕ) (refusal : Output) → IsReached told (file_names words (command words)) name → IsFileRefusal (bytes_of told name) name refusal → HasCauseIn words told refusal
+by-refusal words told name refusal reached (inl why) = subst (HasCauseIn words told) (sym why.1) (missing_line name, (name, reached, why.0, refl), ([], refl))
+by-refusal words told name refusal reached (inr why) = subst (HasCauseIn words told) (sym why.1) (too_long_line name, (name, reached, why.0, refl), ([], refl))
+
+by-files : (words : List (List ℕ)) (told : List FileEntry) (steps answers query : ℕ) (indices : List ℕ) (r : Result (List FileEntry) Output) → command words ≡ Ok (Run steps answers query indices) → files_read told (map (word_at words) indices) ≡ r
+    → HasCauseIn words told (files_output steps answers (word_at words query) r)
+by-files words told steps answers query indices (Err refusal) asked is =
+    let h = refused-file told (map (word_at words) indices) refusal is in
+    by-refusal words told h.0 refusal (subst (λ (c : Result Command ℕ). IsReached told (file_names words c) h.0) (sym asked) h.1) h.2
+by-files words told steps answers query indices (Ok files) asked is =
+    by-items words told steps answers (word_at words query) files (items_read 0 files) (record { query_index = query; file_indices = indices; command_is = asked; query_is = refl; files_are = is }) refl
+
+by-command : (words : List (List ℕ)) (told : List FileEntry) (c : Result Command ℕ) → command words ≡ c → HasCauseIn words told (command_output words told c)
+by-command words told (Err index) is = (codes "words: bad word at " ++ line (decimal index), (index, is, refl), ([], refl))
+by-command words told (Ok (Run steps answers query indices)) is = by-files words told steps answers query indices (files_read told (map (word_at words) indices)) is refl
+
+-- the output of a run has the cause of its status
+pub run-cause : (words : List (List ℕ)) (told : List FileEntry) → HasCauseIn words told (output words told)
+run-cause words told = by-command words told (command words) refl
+
+-- no name stands among none
+not-among : (before after : List (List ℕ)) (name : List ℕ) → [] ≡ before ++ name ∷ after → ⊥
+not-among [] after name is = cc
+not-among (first ∷ before) after name is = cc
+
+not-reached : (told : List FileEntry) (name : List ℕ) → IsReached told [] name → ⊥
+not-reached told name reached = not-among reached.0 reached.1 name reached.2
+
+-- a file that is reached and refused decides
+refused-reached : (words : List (List ℕ)) (told : List FileEntry) (name : List ℕ) (refusal : Output) (c : Result Command ℕ) → IsReached told (file_names words c) name
+    → ((after : List (List ℕ)) → files_read told (name ∷ after) ≡ Err refusal) → command_output words told c ≡ refusal
+refused-reached words told name refusal (Err index) reached refused = absurd (not-reached told name reached)
+refused-reached words told name refusal (Ok (Run steps answers query indices)) reached refused =
+    let read : files_read told (map (word_at words) indices) ≡ Err refusal =
+    ap (files_read told) reached.2 ∙ within-files told reached.0 (name ∷ reached.1) refusal reached.3 (refused reached.1) in
+    ap (files_output steps answers (word_at words query)) read
+
+-- the output of a command whose files are read
+ready-output : (words : List (List ℕ)) (told : List FileEntry) (steps answers : ℕ) (query : List ℕ) (files : List FileEntry) → IsReady words told steps answers query files → output words told ≡ texts_output steps answers query (items_read 0 files)
+ready-output words told steps answers query files ready =
+    ap (command_output words told) ready.command_is
+    ∙ ap (files_output steps answers (word_at words ready.query_index)) ready.files_are
+    ∙ ap (λ (text : List ℕ). texts_output steps answers text (items_read 0 files)) (sym ready.query_is)
+
+unbuilt-output : (words : List (List ℕ)) (told : List FileEntry) (steps answers : ℕ) (query : List ℕ) (files : List FileEntry) (name : List ℕ) → IsUnbuiltFile files name ⊎ IsUnbuiltQuery files query name → (texts_output steps answers query (items_read 0 files)).status ≡ Refused
+unbuilt-output words told steps answers query files name (inl h) =
+    let none = subst (λ (n : ℕ). items_of n h.1.bytes ≡ None) (sym (zero-add (length h.0))) h.5 in
+    ap (λ (r : Result (List Item) Output). (texts_output steps answers query r).status) (ap (items_read 0) h.3 ∙ unbuilt-file 0 h.0 h.1 h.2 h.4 none)
+unbuilt-output words told steps answers query files name (inr h) =
+    let read = built-items 0 files h.0 in
+    ap (λ (r : Result (List Item) Output). (texts_output steps answers query r).status) read.1
+    ∙ ap (λ (goal : Option AstGoal). (query_output steps answers read.0 goal).status) h.1
+
+-- the output of a search that is asked for
+search-output : (words : List (List ℕ)) (told : List FileEntry) (program : Program) (query : Query) (steps answers : ℕ) → Searches words told program query steps answers → output words told ≡ searched program query steps answers
+search-output words told program query steps answers s =
+    ready-output words told steps answers s.text s.files s.ready
+    ∙ ap (texts_output steps answers s.text) s.items_are
+    ∙ ap (query_output steps answers s.items) s.goal_is
+    ∙ ap (λ (p : Program). searched p (query_of s.items s.goal) steps answers) (sym s.program_is)
+    ∙ ap (λ (q : Query). searched program q steps answers) (sym s.query_is)
+
+-- a search with this cause decides
+shown-status : (words : List (List ℕ)) (told : List FileEntry) (limit : ℕ) (shown : List Event) (last : List ℕ) (status : Status) → Shows words told limit shown → SearchCause status limit shown last → (output words told).status ≡ status
+shown-status words told limit shown last status shows h =
+    ap (λ (o : Output). o.status) (search-output words told shows.0 shows.1 shows.2 limit shows.3)
+    ∙ ap (λ (es : List Event). (written shows.0.symbols shows.1.variables limit 0 es).status) (sym shows.4)
+    ∙ search-status shows.0.symbols shows.1.variables limit shown last status h
+
+-- a run with this cause has its status
+pub run-status : (words : List (List ℕ)) (told : List FileEntry) (status : Status) (last : List ℕ) → CauseOf words told status last → (output words told).status ≡ status
+run-status words told Done last h = shown-status words told h.0 h.1 last Done h.2 h.3
+run-status words told NoAnswer last h = shown-status words told h.0 h.1 last NoAnswer h.2 h.3
+run-status words told Words last h = ap (λ (c : Result Command ℕ). (command_output words told c).status) h.1
+run-status words told Refused last h =
+    ap (λ (o : Output). o.status) (ready-output words told h.0 h.1 h.2 h.3 h.5) ∙ unbuilt-output words told h.0 h.1 h.2 h.3 h.4 h.6
+run-status words told Fault last h = shown-status words told h.0 h.1 last Fault h.2 h.3
+run-status words told Budget last h = shown-status words told h.0 h.1 last Budget h.2 h.3
+run-status words told Missing last h =
+    ap (λ (o : Output). o.status) (refused-reached words told h.0 _ (command words) h.1 (λ after. missing-file h.0 (bytes_of told h.0) (files_read told after) h.2))
+run-status words told TooLong last h =
+    ap (λ (o : Output). o.status) (refused-reached words told h.0 _ (command words) h.1 (λ after. long-file h.0 (bytes_of told h.0) (files_read told after) h.2))
+run-status words told status last h = absurd h
+
+-- a status that may be answered is the reference's, unless memory, a read or a write failed
+one-status : (words : List (List ℕ)) (told : List FileEntry) (result : Status) → IsStatusOf words told result → IsFailure result ⊎ (result ≡ (output words told).status)
+one-status words told Memory is = inl tt
+one-status words told WriteFault is = inl tt
+one-status words told ReadFault is = inl tt
+one-status words told status is = inr is
+
+no-failure : (words : List (List ℕ)) (told : List FileEntry) (result status : Status) → (IsFailure status → ⊥) → result ≡ status → IsFailure result ⊎ (result ≡ (output words told).status) → (output words told).status ≡ status
+no-failure words told result status none same (inl failure) = absurd (none (subst IsFailure same failure))
+no-failure words told result status none same (inr is) = sym is ∙ same
+
+or-status : (words : List (List ℕ)) (told : List FileEntry) (result status : Status) → (output words told).status ≡ status → IsFailure result ⊎ (result ≡ (output words told).status) → IsFailure result ⊎ (result ≡ status)
+or-status words told result status same (inl failure) = inl failure
+or-status words told result status same (inr is) = inr (is ∙ same)
+
+comes : (words : List (List ℕ)) (told : List FileEntry) (result status : Status) → (IsFailure status → ⊥) → IsStatusOf words told result → ComesBy (CauseOf words told status) (output words told) status result
+comes words told result status none is =
+    let one = one-status words told result is in
+    let found = run-cause words told in
+    (λ same. (found.0, subst (λ (s : Status). CauseOf words told s found.0) (no-failure words told result status none same one) found.1, found.2),
+    λ last h. or-status words told result status (run-status words told status last h) one)
+
+-- each status comes by its cause
+pub whole-cause : (known : Option (List FileEntry)) (words : List (List ℕ)) (result status : Status) → (IsFailure status → ⊥) → IfSome known (λ told. IsStatusOf words told result)
+    → IfSome known (λ told. ComesBy (CauseOf words told status) (output words told) status result)
+whole-cause None words result status none is = tt
+whole-cause (Some told) words result status none is = comes words told result status none is
+
+-- bad words name no file
+no-read-of : (words : List (List ℕ)) (told : List FileEntry) (name : List ℕ) (index : ℕ) → command words ≡ Err index → IsReached told (file_names words (command words)) name → ⊥
+no-read-of words told name index bad reached = not-reached told name (subst (λ (c : Result Command ℕ). IsReached told (file_names words c) name) bad reached)
+
+words-only : (words : List (List ℕ)) (told : List FileEntry) (result : Status) (index : ℕ) → command words ≡ Err index → IsStatusOf words told result → (result ≡ Memory) ⊎ ((result ≡ WriteFault) ⊎ (result ≡ Words))
+words-only words told Memory index bad is = inl refl
+words-only words told WriteFault index bad is = inr (inl refl)
+words-only words told ReadFault index bad is = absurd (no-read-of words told is.0 index bad is.1.0)
+words-only words told status index bad is = inr (inr (is ∙ ap (λ (c : Result Command ℕ). (command_output words told c).status) bad))
+
+by-words : (files : Option (List FileEntry)) (words : List (List ℕ)) (result : Status) (c : Result Command ℕ) → command words ≡ c → IsErr c → IfSome (known_files words files) (λ told. IsStatusOf words told result)
+    → (result ≡ Memory) ⊎ ((result ≡ WriteFault) ⊎ (result ≡ Words))
+by-words files words result (Ok found) is bad status = absurd (let no : false ≡ true = bad in cc)
+by-words files words result (Err index) is bad status =
+    words-only words [] result index is (subst (λ (c : Result Command ℕ). IfSome (files_for (file_names words c) files) (λ told. IsStatusOf words told result)) is status)
+
+-- bad words have their status, whatever is told of files
+pub whole-words : (files : Option (List FileEntry)) (words : List (List ℕ)) (result : Status) → (result ≡ Words → IsErr (command words)) → IfSome (known_files words files) (λ told. IsStatusOf words told result)
+    → ComesExactlyBy (IsErr (command words)) Words result
+whole-words files words result only status = (only, λ bad. by-words files words result (command words) refl bad status)
+
+all-or-memory : (words : List (List ℕ)) (told : List FileEntry) (before after : Option (List ℕ)) (read wrote : Type 0) (result : Status) → (result ≡ ReadFault → read) → (result ≡ WriteFault → wrote) → IsStatusOf words told result → Appended before after (IsRunOf words told read result)
+    → (read → ⊥) → (wrote → ⊥) → IsComplete (output words told) before after result
+all-or-memory words told before after read wrote Memory reads writes status bytes no_read no_write = inl refl
+all-or-memory words told before after read wrote WriteFault reads writes status bytes no_read no_write = absurd (no_write (writes refl))
+all-or-memory words told before after read wrote ReadFault reads writes status bytes no_read no_write = absurd (no_read (reads refl))
+all-or-memory words told before after read wrote result reads writes status bytes no_read no_write = inr (status, bytes)
+
+-- where no read and no write failed, memory was wanting or all was written
+pub whole-complete : (known : Option (List FileEntry)) (words : List (List ℕ)) (before after : Option (List ℕ)) (read wrote : Type 0) (result : Status) → (result ≡ ReadFault → read) → (result ≡ WriteFault → wrote)
+    → IfSome known (λ told. IsStatusOf words told result) → IfSome known (λ told. Appended before after (IsRunOf words told read result))
+    → IfSome known (λ told. (read → ⊥) → (wrote → ⊥) → IsComplete (output words told) before after result)
+whole-complete None words before after read wrote result reads writes status bytes = tt
+whole-complete (Some told) words before after read wrote result reads writes status bytes = all-or-memory words told before after read wrote result reads writes status bytes

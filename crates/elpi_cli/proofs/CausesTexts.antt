@@ -1,0 +1,152 @@
+-- What reading the files and their texts comes to, and why.
+use Rattle.std.proofs.Common.{◌≡◌, ℕ, suc, ◌+◌, ◌<◌, ◌≤◌, Bool, true, false, nat_lt, codes, List, [], ◌∷◌, ◌++◌, length, ◌⊎◌, inl, inr, refl, ap, sym, subst, ◌∙◌, arith, None, Some, Ok, Err, IsSome, IsSomeAnd, add-zero, lt-ltb, ltb-true, ltb-false, le-ltb}
+use Rattle.std.specs.declared.option.Option.{Option}
+use Rattle.std.specs.declared.result.Result.{Result}
+use Rattle.lam_io.specs.declared.byte_text.FileEntry.{FileEntry}
+use Rattle.lam_io.specs.Reads.{bytes_of}
+use Rattle.lp_parser.specs.declared.ast.Item.{Item}
+use Rattle.elpi_cli.specs.declared.status.Status.TheVariants.{Missing, TooLong}
+use Rattle.elpi_cli.specs.Output.{Output, line, line_only}
+use Rattle.elpi_cli.specs.Texts.{file_limit, before_files, with_file, files_read, not_yet, items_of, with_items, items_read}
+use Rattle.elpi_cli.specs.Top.{AreWithin, IsReached}
+use Rattle.elpi_cli.specs.Causes.{AreBuilt}
+
+-- the lines of a file that is refused
+abbrev pub missing_line : List ℕ → List ℕ
+missing_line name = codes "missing: " ++ line name
+
+abbrev pub too_long_line : List ℕ → List ℕ
+too_long_line name = codes "too long: " ++ line name
+
+-- a file within the limit leaves the refusal of a later one
+within-file : (name : List ℕ) (found : Option (List ℕ)) (later : Result (List FileEntry) Output) (refusal : Output) → IsSomeAnd found (λ bytes. length bytes ≤ file_limit) → later ≡ Err refusal → with_file name found later ≡ Err refusal
+within-file name None later refusal within is = absurd within
+within-file name (Some bytes) later refusal within is = rw (le-ltb file_limit (length bytes) within, is) refl
+
+-- so do all files within the limit
+pub within-files : (told : List FileEntry) (before rest : List (List ℕ)) (refusal : Output) → AreWithin told before → files_read told rest ≡ Err refusal → files_read told (before ++ rest) ≡ Err refusal
+within-files told [] rest refusal within is = is
+within-files told (name ∷ before) rest refusal within is =
+    within-file name (bytes_of told name) (files_read told (before ++ rest)) refusal within.0 (within-files told before rest refusal within.1 is)
+
+-- a file that isn't there is refused
+pub missing-file : (name : List ℕ) (found : Option (List ℕ)) (later : Result (List FileEntry) Output) → found ≡ None → with_file name found later ≡ Err (line_only (missing_line name) Missing)
+missing-file name found later is = ap (λ (f : Option (List ℕ)). with_file name f later) is
+
+-- so is one that passes the limit
+pub long-file : (name : List ℕ) (found : Option (List ℕ)) (later : Result (List FileEntry) Output) → IsSomeAnd found (λ bytes. file_limit < length bytes) → with_file name found later ≡ Err (line_only (too_long_line name) TooLong)
+long-file name None later long = absurd long
+long-file name (Some bytes) later long = rw (lt-ltb file_limit (length bytes) long) refl
+
+-- why a file is refused
+abbrev pub IsFileRefusal : Option (List ℕ) → List ℕ → Output → Type 0
+IsFileRefusal found name refusal =
+    ((found ≡ None) × (refusal ≡ line_only (missing_line name) Missing))
+    ⊎ (IsSomeAnd found (λ bytes. file_limit < length bytes) × (refusal ≡ line_only (too_long_line name) TooLong))
+
+-- a file that is reached is refused
+abbrev pub HasFileRefusal : List FileEntry → List (List ℕ) → Output → Type 0
+HasFileRefusal told names refusal = (name : List ℕ) × IsReached told names name × IsFileRefusal (bytes_of told name) name refusal
+
+-- the first file is reached
+first-reached : (told : List FileEntry) (name : List ℕ) (names : List (List ℕ)) (refusal : Output) → IsFileRefusal (bytes_of told name) name refusal → HasFileRefusal told (name ∷ names) refusal
+first-reached told name names refusal why = (name, ([], names, refl, tt), why)
+
+-- a later file is reached behind one within the limit
+later-reached : (told : List FileEntry) (name : List ℕ) (names : List (List ℕ)) (refusal : Output) → IsSomeAnd (bytes_of told name) (λ bytes. length bytes ≤ file_limit) → HasFileRefusal told names refusal → HasFileRefusal told (name ∷ names) refusal
+later-reached told name names refusal within h =
+    (h.0, (name ∷ h.1.0, h.1.1, ap (λ (ns : List (List ℕ)). name ∷ ns) h.1.2, (within, h.1.3)), h.2)
+
+-- a refusal behind a file is that of a later one
+refused-later : (file : FileEntry) (later : Result (List FileEntry) Output) (refusal : Output) → before_files file later ≡ Err refusal → later ≡ Err refusal
+refused-later file (Ok files) refusal is = absurd (cc)
+refused-later file (Err other) refusal is = cc
+
+by-length : (told : List FileEntry) (name : List ℕ) (names : List (List ℕ)) (refusal : Output) (bytes : List ℕ) (test : Bool) → nat_lt file_limit (length bytes) ≡ test → bytes_of told name ≡ Some bytes
+    → ((r : Output) → files_read told names ≡ Err r → HasFileRefusal told names r) → with_file name (Some bytes) (files_read told names) ≡ Err refusal → HasFileRefusal told (name ∷ names) refusal
+by-length told name names refusal bytes true long is go refused =
+    let why : line_only (too_long_line name) TooLong ≡ refusal = let e = rw long at refused in cc in
+    first-reached told name names refusal (inr (subst (λ (f : Option (List ℕ)). IsSomeAnd f (λ b. file_limit < length b)) (sym is) (ltb-true file_limit (length bytes) long), sym why))
+by-length told name names refusal bytes false short is go refused =
+    later-reached told name names refusal (subst (λ (f : Option (List ℕ)). IsSomeAnd f (λ b. length b ≤ file_limit)) (sym is) (ltb-false file_limit (length bytes) short))
+    (go refusal (refused-later (record { name = name; bytes = bytes }) (files_read told names) refusal (rw short at refused)))
+
+by-bytes : (told : List FileEntry) (name : List ℕ) (names : List (List ℕ)) (refusal : Output) (found : Option (List ℕ)) → bytes_of told name ≡ found
+    → ((r : Output) → files_read told names ≡ Err r → HasFileRefusal told names r) → with_file name found (files_read told names) ≡ Err refusal → HasFileRefusal told (name ∷ names) refusal
+by-bytes told name names refusal None is go refused =
+    let why : line_only (missing_line name) Missing ≡ refusal = cc in
+    first-reached told name names refusal (inl (is, sym why))
+by-bytes told name names refusal (Some bytes) is go refused = by-length told name names refusal bytes (nat_lt file_limit (length bytes)) refl is go refused
+
+-- the first refused file is reached
+pub refused-file : (told : List FileEntry) (names : List (List ℕ)) (refusal : Output) → files_read told names ≡ Err refusal → HasFileRefusal told names refusal
+refused-file told [] refusal is = absurd (cc)
+refused-file told (name ∷ names) refusal is = by-bytes told name names refusal (bytes_of told name) refl (refused-file told names) is
+
+-- a file that is built leaves the refusal of a later one
+built-file : (name : List ℕ) (found : Option (List Item)) (later : Result (List Item) Output) (refusal : Output) → IsSome found → later ≡ Err refusal → with_items name found later ≡ Err refusal
+built-file name None later refusal some is = absurd (let no : false ≡ true = some in cc)
+built-file name (Some items) later refusal some is = ap (with_items name (Some items)) is
+
+-- one more file before the others
+add-file : {A : Type 0} (file : ℕ) (f : A) (fs : List A) → file + 1 + length fs ≡ file + length (f ∷ fs)
+add-file file f fs = omega arith
+
+-- files that are built leave the refusal of the next
+pub unbuilt-file : (file : ℕ) (before : List FileEntry) (f : FileEntry) (after : List FileEntry) → AreBuilt file before → items_of (file + length before) f.bytes ≡ None → items_read file (before ++ f ∷ after) ≡ Err (not_yet f.name)
+unbuilt-file file [] f after built is =
+    let none : items_of file f.bytes ≡ None = subst (λ (n : ℕ). items_of n f.bytes ≡ None) (add-zero file) is in
+    ap (λ (o : Option (List Item)). with_items f.name o (items_read (file + 1) after)) none
+unbuilt-file file (g ∷ before) f after built is =
+    built-file g.name (items_of file g.bytes) (items_read (file + 1) (before ++ f ∷ after)) (not_yet f.name) built.0
+    (unbuilt-file (file + 1) before f after built.1 (subst (λ (n : ℕ). items_of n f.bytes ≡ None) (sym (add-file file g before)) is))
+
+built-all : (name : List ℕ) (found : Option (List Item)) (later : Result (List Item) Output) → IsSome found → (items : List Item) × (later ≡ Ok items) → (items : List Item) × (with_items name found later ≡ Ok items)
+built-all name None later some h = absurd (let no : false ≡ true = some in cc)
+built-all name (Some items) later some h = (items ++ h.0, ap (with_items name (Some items)) h.1)
+
+-- where all files are built, their items are read
+pub built-items : (file : ℕ) (files : List FileEntry) → AreBuilt file files → (items : List Item) × (items_read file files ≡ Ok items)
+built-items file [] built = ([], refl)
+built-items file (f ∷ fs) built = built-all f.name (items_of file f.bytes) (items_read (file + 1) fs) built.0 (built-items (file + 1) fs built.1)
+
+-- a file isn't built, those before it are, and it is refused
+abbrev pub HasTextRefusal : (file : ℕ) → List FileEntry → Output → Type 0
+HasTextRefusal file files refusal =
+    (before : List FileEntry) × (f : FileEntry) × (after : List FileEntry) × (files ≡ before ++ f ∷ after)
+    × AreBuilt file before × (items_of (file + length before) f.bytes ≡ None) × (refusal ≡ not_yet f.name)
+
+later-text : (file : ℕ) (f : FileEntry) (fs : List FileEntry) (refusal : Output) → IsSome (items_of file f.bytes) → HasTextRefusal (file + 1) fs refusal → HasTextRefusal file (f ∷ fs) refusal
+later-text file f fs refusal some h =
+    (f ∷ h.0, h.1, h.2, ap (λ (gs : List FileEntry). f ∷ gs) h.3, (some, h.4), subst (λ (n : ℕ). items_of n h.1.bytes ≡ None) (add-file file f h.0) h.5, h.6)
+
+by-later : (file : ℕ) (f : FileEntry) (fs : List FileEntry) (refusal : Output) (items : List Item) (later : Result (List Item) Output) → items_read (file + 1) fs ≡ later → items_of file f.bytes ≡ Some items
+    → ((r : Output) → items_read (file + 1) fs ≡ Err r → HasTextRefusal (file + 1) fs r) → with_items f.name (Some items) later ≡ Err refusal → HasTextRefusal file (f ∷ fs) refusal
+by-later file f fs refusal items (Ok more) is found go refused = absurd (cc)
+by-later file f fs refusal items (Err other) is found go refused =
+    let same : other ≡ refusal = cc in
+    later-text file f fs refusal (subst IsSome (sym found) refl) (go refusal (is ∙ ap (λ (o : Output). Err o) same))
+
+by-items : (file : ℕ) (f : FileEntry) (fs : List FileEntry) (refusal : Output) (found : Option (List Item)) → items_of file f.bytes ≡ found
+    → ((r : Output) → items_read (file + 1) fs ≡ Err r → HasTextRefusal (file + 1) fs r) → with_items f.name found (items_read (file + 1) fs) ≡ Err refusal → HasTextRefusal file (f ∷ fs) refusal
+by-items file f fs refusal None is go refused =
+    let why : not_yet f.name ≡ refusal = cc in
+    ([], f, fs, refl, tt, subst (λ (n : ℕ). items_of n f.bytes ≡ None) (sym (add-zero file)) is, sym why)
+by-items file f fs refusal (Some items) is go refused = by-later file f fs refusal items (items_read (file + 1) fs) refl is go refused
+
+-- the first text that isn't built is refused
+pub refused-text : (file : ℕ) (files : List FileEntry) (refusal : Output) → items_read file files ≡ Err refusal → HasTextRefusal file files refusal
+refused-text file [] refusal is = absurd (cc)
+refused-text file (f ∷ fs) refusal is = by-items file f fs refusal (items_of file f.bytes) refl (refused-text (file + 1) fs) is
+
+all-of-both : (name : List ℕ) (found : Option (List Item)) (later : Result (List Item) Output) (items : List Item) → with_items name found later ≡ Ok items → IsSome found × ((items : List Item) × (later ≡ Ok items))
+all-of-both name None later items is = absurd (cc)
+all-of-both name (Some first) (Ok more) items is = (refl, (more, refl))
+all-of-both name (Some first) (Err other) items is = absurd (cc)
+
+-- where items are read, all files are built
+pub all-built : (file : ℕ) (files : List FileEntry) (items : List Item) → items_read file files ≡ Ok items → AreBuilt file files
+all-built file [] items is = tt
+all-built file (f ∷ fs) items is =
+    let both = all-of-both f.name (items_of file f.bytes) (items_read (file + 1) fs) items is in
+    (both.0, all-built (file + 1) fs both.1.0 both.1.1)
