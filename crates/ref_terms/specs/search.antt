@@ -1,3 +1,4 @@
+pub mod Alike
 pub mod Arithmetic
 pub mod Assumption
 pub mod Branch
@@ -15,6 +16,7 @@ pub mod Joint
 pub mod Lists
 pub mod Next
 pub mod Program
+pub mod Renamed
 pub mod Reserved
 pub mod Resolve
 pub mod RuleInstance

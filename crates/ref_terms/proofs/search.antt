@@ -1,0 +1,10 @@
+pub mod ArithmeticVars
+pub mod AssumptionVars
+pub mod BranchVars
+pub mod CandidateVars
+pub mod Fair
+pub mod FormulaVars
+pub mod InstanceVars
+pub mod ListVars
+pub mod TermVars
+pub mod ResolveVars
