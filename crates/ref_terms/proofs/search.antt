@@ -8,3 +8,6 @@ pub mod InstanceVars
 pub mod ListVars
 pub mod TermVars
 pub mod ResolveVars
+pub mod AlikeFacts
+pub mod BranchMoveVars
+pub mod GoalMoveVars

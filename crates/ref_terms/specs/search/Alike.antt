@@ -55,6 +55,10 @@ RenamedState (Ended b xs) (Ended c ys) = Both RenamedBranch b c × Each RenamedA
 RenamedState (Over e) (Over f) = RenamedEvent e f
 RenamedState _ _ = ⊥
 
+-- the event and the state after a move are renamed
+abbrev pub RenamedMove : Move → Move → Type 0
+RenamedMove m n = RenamedEvent m.event n.event × RenamedState m.state n.state
+
 -- both are related by any number of such steps, in either direction: the least equivalence with this relation
 pub data Joined {A : Type 0} (R : A → A → Type 0) : A → A → Type 0 where
   step : {a b : A} → R a b → Joined R a b
