@@ -11,3 +11,6 @@ pub mod ResolveVars
 pub mod AlikeFacts
 pub mod BranchMoveVars
 pub mod GoalMoveVars
+pub mod RuleTestVars
+pub mod JointVars
+pub mod RuleMatchVars
