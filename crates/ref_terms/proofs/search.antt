@@ -14,3 +14,6 @@ pub mod GoalMoveVars
 pub mod RuleTestVars
 pub mod JointVars
 pub mod RuleMatchVars
+pub mod RuleInstanceVars
+pub mod FirstRuleVars
+pub mod UnifyFair
