@@ -17,3 +17,5 @@ pub mod RuleMatchVars
 pub mod RuleInstanceVars
 pub mod FirstRuleVars
 pub mod UnifyFair
+pub mod NextVars
+pub mod AnswerVars

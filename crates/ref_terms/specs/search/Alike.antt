@@ -77,9 +77,12 @@ AlikeEvent e f = Joined RenamedEvent e f
 abbrev pub AlikeMove : Move → Move → Type 0
 AlikeMove m n = AlikeEvent m.event n.event × AlikeState m.state n.state
 
--- events for which the same is written: they are equal, or two answers with equal blocks, whatever their number, and equal paths
-abbrev pub WrittenTheSame : List (List ℕ) → List QueryVar → Event → Event → Type 0
-WrittenTheSame table variables (Answered b) (Answered c) = ((number : ℕ) → answer_block table variables number b ≡ answer_block table variables number c) × (path_line b.path ≡ path_line c.path)
-WrittenTheSame table variables (Answered b) f = ⊥
-WrittenTheSame table variables e (Answered c) = ⊥
-WrittenTheSame table variables e f = e ≡ f
+-- what is written for an event: an answer's block, whatever its number, and its path; every other event is written as it is
+pub data Shown : Type 0 where
+  answer : (block : ℕ → List ℕ) → (path : List ℕ) → Shown
+  as_it_is : Event → Shown
+
+-- so much of an event can be seen
+abbrev pub shown : List (List ℕ) → List QueryVar → Event → Shown
+shown table variables (Answered b) = answer (λ number. answer_block table variables number b) (path_line b.path)
+shown table variables e = as_it_is e
