@@ -19,3 +19,4 @@ pub mod FirstRuleVars
 pub mod UnifyFair
 pub mod NextVars
 pub mod AnswerVars
+pub mod AlikeRuns

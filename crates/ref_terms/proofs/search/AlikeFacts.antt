@@ -1,10 +1,10 @@
 -- Renamings of branches and alternatives.
-use Rattle.std.proofs.Common.{◌≡◌, ℕ, zero, suc, ◌+◌, ◌-◌, ◌≤◌, ◌<◌, Bool, true, false, nat_lt, List, [], ◌∷◌, map, length, drop, refl, sym, ap, ap₂, ◌∙◌, subst, arith, inl, inr, ◌⊎◌}
+use Rattle.std.proofs.Common.{◌≡◌, ℕ, zero, suc, ◌+◌, ◌-◌, ◌≤◌, ◌<◌, Bool, true, false, nat_lt, List, [], ◌∷◌, map, length, drop, refl, sym, ap, ◌∙◌, subst, arith}
 use Rattle.std.proofs.lemmas.Bool.{lt-ltb, le-ltb, ltb-true, ltb-false}
 use Rattle.ref_terms.specs.search.Branch.{Branch}
-use Rattle.ref_terms.specs.search.State.{Candidate, Alternative, later_clauses, other_side}
+use Rattle.ref_terms.specs.search.State.{Candidate, Alternative, other_side}
 use Rattle.ref_terms.specs.search.BranchMove.{with_later, cut_to}
-use Rattle.ref_terms.specs.search.Renamed.{branch_vars, candidate_vars, alternative_vars}
+use Rattle.ref_terms.specs.search.Renamed.{branch_vars, candidate_vars}
 use Rattle.ref_terms.specs.search.Alike.{IsRenamingAt, RenamedBranch, RenamedAlternative, Each}
 use Rattle.ref_terms.proofs.search.InstanceVars.{in_order}
 use Rattle.ref_terms.proofs.search.Fair.{in-order-later}

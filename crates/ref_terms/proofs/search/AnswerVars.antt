@@ -8,7 +8,7 @@ use Rattle.ref_terms.specs.search.Program.{QueryVar}
 use Rattle.ref_terms.specs.search.Assumption.{Assumption}
 use Rattle.ref_terms.specs.search.Branch.{Constraint, Branch}
 use Rattle.ref_terms.specs.search.Renamed.{assumption_vars, constraint_vars, branch_vars}
-use Rattle.ref_terms.specs.texts.Text.{Part, Bytes, symbol, head_text, top, term_parts}
+use Rattle.ref_terms.specs.texts.Text.{Part, Bytes, symbol, head_text, top}
 use Rattle.ref_terms.specs.texts.Numbering.{text_of}
 use Rattle.ref_terms.specs.texts.Answer.{separated, term_line, sequent_parts, indented, variable_lines, answer_block}
 use Rattle.ref_terms.proofs.TextLemmas.{part_vars, parts-vars, numbered-vars}
@@ -48,8 +48,8 @@ module _ (p : ℕ → ℕ) where
         let hypotheses = separated (Bytes (codes "; ") ∷ []) (map (λ h. term_line table h.assumed) c.assumptions) in
         joined ((Bytes (codes "delayed [") ∷ names) ++ (Bytes (codes "] [") ∷ hypotheses)) (Bytes (codes "] ?- ") ∷ term_line table c.term) _ _
         (joined (Bytes (codes "delayed [") ∷ names) (Bytes (codes "] [") ∷ hypotheses) _ _
-          (ap (λ (zs : List Part). Bytes (codes "delayed [") ∷ zs) (name-lines (names_below c.names)))
-          (ap (λ (zs : List Part). Bytes (codes "] [") ∷ zs) (assumption-lines c.assumptions)))
+        (ap (λ (zs : List Part). Bytes (codes "delayed [") ∷ zs) (name-lines (names_below c.names)))
+        (ap (λ (zs : List Part). Bytes (codes "] [") ∷ zs) (assumption-lines c.assumptions)))
         (ap (λ (zs : List Part). Bytes (codes "] ?- ") ∷ zs) (line-vars c.term))
 
     lines-vars : (vs : List QueryVar) (ts : List Term) → variable_lines table vs (map (vars p) ts) ≡ map (part_vars p) (variable_lines table vs ts)

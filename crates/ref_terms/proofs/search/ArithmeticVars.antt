@@ -1,11 +1,11 @@
 -- Integers and expressions, where variables are renamed.
-use Rattle.std.proofs.Common.{◌≡◌, ℕ, Bool, true, false, cond, ℤ, refl, ap, ap₂, ◌∙◌, Option, Some, None}
-use Rattle.ref_terms.specs.terms.Term.{Term, Lam, At, App, Head, Con, Int, Str, Name, Bound, Var}
+use Rattle.std.proofs.Common.{◌≡◌, ℕ, cond, ℤ, refl, ap, ap₂, ◌∙◌, Option, Some, None}
+use Rattle.ref_terms.specs.terms.Term.{Term, Lam, At, App, Con, Int, Str, Name, Bound, Var}
 use Rattle.ref_terms.specs.terms.Renamed.{vars}
 use Rattle.ref_terms.specs.unification.Shape.{Shape, Abstraction, Redex, Rigid, Flex, shape}
 use Rattle.ref_terms.specs.search.Reserved.{word_of}
 use Rattle.ref_terms.specs.search.Fault.{Judged, Bad}
-use Rattle.ref_terms.specs.search.Arithmetic.{integer_of, shape_fault, number_fault, judged_integer, operand, judged_less, less, is_operator, combined, value_of}
+use Rattle.ref_terms.specs.search.Arithmetic.{integer_of, shape_fault, judged_integer, operand, judged_less, less, is_operator, combined, value_of}
 use Rattle.ref_terms.specs.declared.fault.Fault.TheVariants.{Number}
 use Rattle.ref_terms.proofs.search.TermVars.{shape_vars, shape-vars}
 

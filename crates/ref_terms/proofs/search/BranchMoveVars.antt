@@ -1,11 +1,11 @@
 -- Moves of a branch, where variables are renamed.
-use Rattle.std.proofs.Common.{◌≡◌, ℕ, zero, suc, ◌+◌, ◌≤◌, Bool, true, false, ℤ, List, [], ◌∷◌, ◌++◌, map, length, refl, sym, ap, ap₂, ◌∙◌, subst, Option, Some, None, option_map, arith}
+use Rattle.std.proofs.Common.{◌≡◌, ℕ, zero, suc, ◌≤◌, Bool, true, false, ℤ, List, [], ◌∷◌, ◌++◌, map, length, refl, sym, ap₂, subst, Option, Some, None, option_map, arith}
 use Rattle.std.proofs.lemmas.List.{map-append}
-use Rattle.ref_terms.specs.terms.Term.{Term, Lam, At, App, Head, Con, Int, Str, Name, Bound, Var}
-use Rattle.ref_terms.specs.terms.Apply.{apply, opened, open_with}
+use Rattle.ref_terms.specs.terms.Term.{Term, Lam, At, App, Head, Con, Int, Bound}
+use Rattle.ref_terms.specs.terms.Apply.{opened}
 use Rattle.ref_terms.specs.terms.Renamed.{vars, vars_head}
 use Rattle.ref_terms.specs.lemmas.VarsLemmas.{apply-vars, fill-vars}
-use Rattle.ref_terms.specs.unification.Problem.{Equation, Problem, Answer, Solved, Clashed, Faulted as UnifyFaulted}
+use Rattle.ref_terms.specs.unification.Problem.{Problem, Answer, Solved, Clashed, Faulted as UnifyFaulted}
 use Rattle.ref_terms.specs.unification.Renamed.{binding_vars, renamed_answer}
 use Rattle.ref_terms.specs.unification.Unification.{Unification}
 use Rattle.ref_terms.specs.declared.fault.Fault.{Fault}
@@ -13,11 +13,11 @@ use Rattle.ref_terms.specs.search.Fault.{Judged, Good, Bad}
 use Rattle.ref_terms.specs.search.Program.{Program, modes_of}
 use Rattle.ref_terms.specs.search.Assumption.{Assumption}
 use Rattle.ref_terms.specs.search.Branch.{Goal, Constraint, Branch, bound_branch, with_goals}
-use Rattle.ref_terms.specs.search.State.{Candidate, Alternative, Move, goes_on, faults}
+use Rattle.ref_terms.specs.search.State.{Candidate, Alternative, goes_on, faults}
 use Rattle.ref_terms.specs.search.Candidates.{candidates}
 use Rattle.ref_terms.specs.search.Resolve.{Resolved, resolve}
 use Rattle.ref_terms.specs.search.BranchMove.{fails, applied_whole, goes_or_fails, after_unifying, unifies, evaluates, compares, assumes, suspends, with_later, enters, calls}
-use Rattle.ref_terms.specs.search.Renamed.{assumption_vars, goal_vars, constraint_vars, branch_vars, candidate_vars}
+use Rattle.ref_terms.specs.search.Renamed.{assumption_vars, goal_vars, constraint_vars, branch_vars}
 use Rattle.ref_terms.specs.search.Alike.{IsRenamingAt, RenamedAlternative, Each, RenamedMove}
 use Rattle.ref_terms.proofs.search.AssumptionVars.{clauses_vars}
 use Rattle.ref_terms.proofs.search.BranchVars.{bound-branch-vars}
@@ -97,17 +97,17 @@ module _ (xs ys : List Alternative) (w : Each RenamedAlternative xs ys) where
       calls-alike program c goal rest None q d =
           subst (λ (z : Option Fault). RenamedMove (calls unify program c branch goal rest xs None) (calls unify program c (branch_vars p branch) (goal_vars p goal) (map (goal_vars p) rest) ys z)) (sym d)
           (subst (λ (z : Option (Judged Resolved)). RenamedMove (calls unify program c branch goal rest xs None) (enters (branch_vars p branch) ys z))
-            (sym (ap₂ (λ (n : ℕ) (cs : List Candidate). resolve unify (modes_of program c) (branch_vars p branch) (goal_vars p goal) (map (goal_vars p) rest) n cs) (each-length RenamedAlternative xs ys w) (candidates-vars p program c goal.assumptions)))
-            (enters-alike _ _ (resolve-vars unify fair p branch good (modes_of program c) goal rest (length xs) (candidates program c goal.assumptions))))
+          (sym (ap₂ (λ (n : ℕ) (cs : List Candidate). resolve unify (modes_of program c) (branch_vars p branch) (goal_vars p goal) (map (goal_vars p) rest) n cs) (each-length RenamedAlternative xs ys w) (candidates-vars p program c goal.assumptions)))
+          (enters-alike _ _ (resolve-vars unify fair p branch good (modes_of program c) goal rest (length xs) (candidates program c goal.assumptions))))
 
     pub assumes-alike : (goal : Goal) (t : Term) (rest : List Goal) (a b : Judged (List Assumption)) → b ≡ clauses_vars p a
         → RenamedMove (assumes goal t branch rest xs a) (assumes (goal_vars p goal) (vars p t) (branch_vars p branch) (map (goal_vars p) rest) ys b)
     assumes-alike goal t rest (Good hs) b e =
         subst (λ (j : Judged (List Assumption)). RenamedMove (assumes goal t branch rest xs (Good hs)) (assumes (goal_vars p goal) (vars p t) (branch_vars p branch) (map (goal_vars p) rest) ys j)) (sym e)
         (goes-alike (with_goals (record goal { assumptions = hs ++ goal.assumptions; term = t } ∷ rest) branch)
-          (with_goals (record (goal_vars p goal) { assumptions = map (assumption_vars p) hs ++ map (assumption_vars p) goal.assumptions; term = vars p t } ∷ map (goal_vars p) rest) (branch_vars p branch))
-          stays
-          (λ i. record (branch_vars p branch) { goals = record (goal_vars p goal) { assumptions = sym (map-append (assumption_vars p) hs goal.assumptions) i; term = vars p t } ∷ map (goal_vars p) rest }))
+        (with_goals (record (goal_vars p goal) { assumptions = map (assumption_vars p) hs ++ map (assumption_vars p) goal.assumptions; term = vars p t } ∷ map (goal_vars p) rest) (branch_vars p branch))
+        stays
+        (λ i. record (branch_vars p branch) { goals = record (goal_vars p goal) { assumptions = sym (map-append (assumption_vars p) hs goal.assumptions) i; term = vars p t } ∷ map (goal_vars p) rest }))
     assumes-alike goal t rest (Bad f) b e = subst (λ (j : Judged (List Assumption)). RenamedMove (faults f) (assumes (goal_vars p goal) (vars p t) (branch_vars p branch) (map (goal_vars p) rest) ys j)) (sym e) (faults-alike f)
 
     pub suspends-alike : (goal : Goal) (t : Term) (rest : List Goal) (o q : Option (List Term)) → q ≡ option_map (map (vars p)) o
@@ -117,6 +117,6 @@ module _ (xs ys : List Alternative) (w : Each RenamedAlternative xs ys) where
         let c : Constraint = record { number = suc branch.declared; names = goal.names; assumptions = goal.assumptions; term = t; keys = keys } in
         subst (λ (z : Option (List Term)). RenamedMove (suspends goal t branch rest xs (Some keys)) (suspends (goal_vars p goal) (vars p t) (branch_vars p branch) (map (goal_vars p) rest) ys z)) (sym e)
         (goes-alike (record branch { goals = rest; store = branch.store ++ c ∷ []; declared = suc branch.declared })
-          (record (branch_vars p branch) { goals = map (goal_vars p) rest; store = map (constraint_vars p) branch.store ++ constraint_vars p c ∷ []; declared = suc branch.declared })
-          stays
-          (λ i. record (branch_vars p branch) { goals = map (goal_vars p) rest; store = sym (map-append (constraint_vars p) branch.store (c ∷ [])) i; declared = suc branch.declared }))
+        (record (branch_vars p branch) { goals = map (goal_vars p) rest; store = map (constraint_vars p) branch.store ++ constraint_vars p c ∷ []; declared = suc branch.declared })
+        stays
+        (λ i. record (branch_vars p branch) { goals = map (goal_vars p) rest; store = sym (map-append (constraint_vars p) branch.store (c ∷ [])) i; declared = suc branch.declared }))

@@ -1,11 +1,10 @@
 -- Unification that sees no difference between renamed problems, and outcomes that are renamed.
-use Rattle.std.proofs.Common.{◌≡◌, ℕ, suc, ◌≤◌, nat_eq, nat_lt, Option, Some, None, refl, sym, ap, ◌∙◌, arith}
+use Rattle.std.proofs.Common.{◌≡◌, ℕ, ◌≤◌, Option, Some, None, sym, ◌∙◌, arith}
 use Rattle.std.proofs.lemmas.Bool.{le-ltb}
 use Rattle.ref_terms.specs.unification.Problem.{Problem, Answer, Solved, Clashed, Faulted}
 use Rattle.ref_terms.specs.unification.Renamed.{renamed, renamed_answer, IsRenaming}
 use Rattle.ref_terms.specs.unification.Unification.{Unification}
 use Rattle.ref_terms.specs.search.Fault.{Judged, Good, Bad}
-use Rattle.ref_terms.specs.search.Alike.{IsRenamingAt}
 use Rattle.ref_terms.proofs.unification.RunRenamed.{InOrderFrom}
 
 -- the next variable of the answer is no lower

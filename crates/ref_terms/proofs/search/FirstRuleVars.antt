@@ -6,7 +6,7 @@ use Rattle.ref_terms.specs.search.Fault.{Judged, Good, Bad}
 use Rattle.ref_terms.specs.search.Program.{Rule}
 use Rattle.ref_terms.specs.search.Branch.{Constraint, Branch}
 use Rattle.ref_terms.specs.search.RuleMatch.{heads_of}
-use Rattle.ref_terms.specs.search.RuleInstance.{Firing, rule_instance}
+use Rattle.ref_terms.specs.search.RuleInstance.{Firing}
 use Rattle.ref_terms.specs.search.FirstRule.{picks, tuples, or_later, first_tuple, first_firing}
 use Rattle.ref_terms.specs.search.Renamed.{constraint_vars, branch_vars}
 use Rattle.ref_terms.specs.search.Alike.{IsRenamingAt}
@@ -34,8 +34,8 @@ module _ (p : ℕ → ℕ) where
   tuples-vars (h ∷ hs) store =
       ap (flat_map (λ q. map (λ cs. q.0 ∷ cs) (tuples hs q.1))) (picks-vars [] store)
       ∙ flat-square (λ q. map (λ cs. q.0 ∷ cs) (tuples hs q.1)) pick_vars (map (constraint_vars p)) (λ q. map (λ cs. q.0 ∷ cs) (tuples hs q.1))
-        (λ q. ap (map (λ cs. constraint_vars p q.0 ∷ cs)) (tuples-vars hs q.1) ∙ sym (map-square (map (constraint_vars p)) (λ cs. q.0 ∷ cs) (λ cs. constraint_vars p q.0 ∷ cs) (map (constraint_vars p)) (λ cs. refl) (tuples hs q.1)))
-        (picks [] store)
+      (λ q. ap (map (λ cs. constraint_vars p q.0 ∷ cs)) (tuples-vars hs q.1) ∙ sym (map-square (map (constraint_vars p)) (λ cs. q.0 ∷ cs) (λ cs. constraint_vars p q.0 ∷ cs) (map (constraint_vars p)) (λ cs. refl) (tuples hs q.1)))
+      (picks [] store)
 
 or-later-vars : (R : Firing → Firing → Type 0) (a b c d : Option (Judged Firing)) → Outcome R a b → Outcome R c d → Outcome R (or_later a c) (or_later b d)
 or-later-vars R None None c d v w = w

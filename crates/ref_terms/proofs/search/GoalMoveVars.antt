@@ -1,5 +1,5 @@
 -- The move of the first goal, where variables are renamed.
-use Rattle.std.proofs.Common.{◌≡◌, ℕ, suc, ◌≤◌, Bool, List, [], ◌∷◌, ◌++◌, map, refl, sym, ap, ap₂, ◌∙◌, subst, Option, Some, None, arith}
+use Rattle.std.proofs.Common.{◌≡◌, ℕ, suc, ◌≤◌, List, [], ◌∷◌, ◌++◌, map, refl, sym, ap, ◌∙◌, subst, arith}
 use Rattle.std.proofs.lemmas.List.{map-append}
 use Rattle.ref_terms.specs.terms.Term.{Term, At, Name}
 use Rattle.ref_terms.specs.terms.Apply.{apply}
@@ -14,11 +14,9 @@ use Rattle.ref_terms.specs.search.Instance.{variable_under}
 use Rattle.ref_terms.specs.search.Value.{term_eq, is_flex, is_bare_name}
 use Rattle.ref_terms.specs.search.Arithmetic.{less, value_of}
 use Rattle.ref_terms.specs.search.Branch.{Goal, Branch, with_goals, goals_at}
-use Rattle.ref_terms.specs.search.State.{Alternative, other_side, Event, Printed, Running, Move, goes_on}
+use Rattle.ref_terms.specs.search.State.{Alternative, Printed}
 use Rattle.ref_terms.specs.search.Candidates.{call_fault}
 use Rattle.ref_terms.specs.declared.path.Choice.TheVariants.{Left as LeftSide, Right as RightSide}
-use Rattle.ref_terms.specs.texts.Text.{term_parts, top}
-use Rattle.ref_terms.specs.texts.Numbering.{text_of}
 use Rattle.ref_terms.specs.search.BranchMove.{applied_whole, unifies}
 use Rattle.ref_terms.specs.search.GoalMove.{kind_move, goal_move}
 use Rattle.ref_terms.specs.search.Renamed.{goal_vars, branch_vars}
@@ -54,9 +52,13 @@ module _ (unify : Unification) (fair : IsFair unify) (program : Program) (xs ys 
   kind_move-alike Failing = fails-alike xs ys w
   kind_move-alike Cut = (refl, (branch-renamed p branch.next_var good others (with_goals (map (goal_vars p) rest) (branch_vars p branch)) stays refl, cut-renamed goal.barrier xs ys w))
   kind_move-alike (Conjunction s t) = goes-alike xs ys w p branch good (with_goals (goals_at goal (s ∷ t ∷ []) ++ rest) branch) (with_goals (goals_at (goal_vars p goal) (vars p s ∷ vars p t ∷ []) ++ map (goal_vars p) rest) (branch_vars p branch)) stays refl
-  kind_move-alike (Disjunction s t) =
-      (refl, (branch-renamed p branch.next_var good (record branch { goals = goals_at goal (s ∷ []) ++ rest; path = LeftSide ∷ branch.path }) (record (branch_vars p branch) { goals = goals_at (goal_vars p goal) (vars p s ∷ []) ++ map (goal_vars p) rest; path = LeftSide ∷ branch.path }) stays refl,
-        (side-renamed p branch.next_var good (record branch { goals = goals_at goal (t ∷ []) ++ rest; path = RightSide ∷ branch.path }) (record (branch_vars p branch) { goals = goals_at (goal_vars p goal) (vars p t ∷ []) ++ map (goal_vars p) rest; path = RightSide ∷ branch.path }) stays refl, w)))
+  kind_move-alike (Disjunction s t) = (
+    refl,
+    (
+      branch-renamed p branch.next_var good (record branch { goals = goals_at goal (s ∷ []) ++ rest; path = LeftSide ∷ branch.path }) (record (branch_vars p branch) { goals = goals_at (goal_vars p goal) (vars p s ∷ []) ++ map (goal_vars p) rest; path = LeftSide ∷ branch.path }) stays refl,
+      (side-renamed p branch.next_var good (record branch { goals = goals_at goal (t ∷ []) ++ rest; path = RightSide ∷ branch.path }) (record (branch_vars p branch) { goals = goals_at (goal_vars p goal) (vars p t ∷ []) ++ map (goal_vars p) rest; path = RightSide ∷ branch.path }) stays refl, w),
+    ),
+  )
   kind_move-alike (Assuming d t) = assumes-alike xs ys w p branch good goal t rest (assumptions_of goal.names d) (assumptions_of goal.names (vars p d)) (assumptions-vars p goal.names d)
   kind_move-alike (ForAll f) =
       let x = At (Name goal.names) in
@@ -77,9 +79,10 @@ module _ (unify : Unification) (fair : IsFair unify) (program : Program) (xs ys 
   kind_move-alike (IsName t) = goes-or-fails-alike xs ys w p others good (is_bare_name t) (is_bare_name (vars p t)) (is_bare_name-vars p t)
   kind_move-alike (Evaluating x e) = evaluates-alike xs ys w p others good unify fair goal.names x (value_of e) (value_of (vars p e)) (value-vars p e)
   kind_move-alike (Less s t) = compares-alike xs ys w p others good (less s t) (less (vars p s) (vars p t)) (less-vars p s t)
-  kind_move-alike (Printing t) =
-      (ap (λ (bs : List ℕ). Printed (bs ++ 10 ∷ [])) (sym (text-vars program.symbols p good.good.one_to_one t)),
-        (branch-renamed p branch.next_var good others (with_goals (map (goal_vars p) rest) (branch_vars p branch)) stays refl, w))
+  kind_move-alike (Printing t) = (
+    ap (λ (bs : List ℕ). Printed (bs ++ 10 ∷ [])) (sym (text-vars program.symbols p good.good.one_to_one t)),
+    (branch-renamed p branch.next_var good others (with_goals (map (goal_vars p) rest) (branch_vars p branch)) stays refl, w),
+  )
   kind_move-alike (Applying f a r) =
       subst (λ (z : Term). RenamedMove (unifies unify goal.names (applied_whole f a) r others xs) (unifies unify goal.names z (vars p r) (branch_vars p others) ys)) (sym (applied_whole-vars p f a))
       (unifies-alike xs ys w p others good unify fair goal.names (applied_whole f a) r)

@@ -1,5 +1,5 @@
 -- Instances of clauses, where variables are renamed.
-use Rattle.std.proofs.Common.{◌≡◌, ℕ, zero, suc, ◌+◌, ◌-◌, ◌≤◌, Bool, true, false, cond, List, [], ◌∷◌, map, option_to_list, refl, sym, ap, ap₂, ◌∙◌, Option, Some, None, arith}
+use Rattle.std.proofs.Common.{◌≡◌, ℕ, zero, suc, ◌+◌, ◌-◌, ◌≤◌, Bool, true, false, cond, map, option_to_list, refl, sym, ap, ap₂, ◌∙◌, arith}
 use mathlib.Core.Path.{fun_ext}
 use Rattle.ref_terms.specs.terms.Term.{Term, Lam, At, App, Head, Con, Int, Str, Name, Bound, Var}
 use Rattle.ref_terms.specs.terms.Index.{next as one_up}

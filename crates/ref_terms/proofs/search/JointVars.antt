@@ -1,6 +1,6 @@
 -- Joint names, where variables are renamed: they are the same.
-use Rattle.std.proofs.Common.{◌≡◌, ℕ, zero, suc, Bool, true, false, cond, nat_eq, List, [], ◌∷◌, ◌++◌, map, replicate, filter, refl, ap, ap₂, ◌∙◌, Option, Some, None, option_map, option_and_then, slice_get, slice_index}
-use Rattle.ref_terms.specs.terms.Term.{Term, At, Head, Con, Int, Str, Name, Bound, Var}
+use Rattle.std.proofs.Common.{◌≡◌, ℕ, suc, Bool, cond, nat_eq, List, [], ◌∷◌, map, replicate, filter, refl, ap, ap₂, ◌∙◌, Option, Some, None, option_map, option_and_then, slice_get}
+use Rattle.ref_terms.specs.terms.Term.{Term, Head, Con, Int, Name}
 use Rattle.ref_terms.specs.terms.Renamed.{vars, vars_head}
 use Rattle.ref_terms.specs.lemmas.VarsLemmas.{fill-vars}
 use Rattle.ref_terms.specs.unification.Spine.{args_of}

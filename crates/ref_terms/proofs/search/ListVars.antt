@@ -1,5 +1,5 @@
 -- Lists whose items are renamed.
-use Rattle.std.proofs.Common.{◌≡◌, ℕ, zero, suc, Bool, true, false, cond, ◌||◌, List, [], ◌∷◌, ◌++◌, map, filter, refl, ap, ap₂, ◌∙◌, Option, Some, None, option_map, slice_get}
+use Rattle.std.proofs.Common.{◌≡◌, ℕ, zero, suc, Bool, true, false, cond, ◌||◌, List, [], ◌∷◌, map, filter, refl, ap₂, ◌∙◌, option_map, slice_get}
 use Rattle.std.specs.List.{list_any}
 
 -- two maps after one another, in either order

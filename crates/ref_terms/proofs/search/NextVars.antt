@@ -1,23 +1,22 @@
 -- One move, where each branch has its variables renamed.
-use Rattle.std.proofs.Common.{◌≡◌, ℕ, suc, ◌≤◌, Bool, not, List, [], ◌∷◌, ◌++◌, map, length, filter, refl, sym, ap, ap₂, ◌∙◌, subst, Option, Some, None, arith}
+use Rattle.std.proofs.Common.{◌≡◌, ℕ, ◌≤◌, not, List, [], ◌∷◌, ◌++◌, map, length, filter, refl, sym, ap, ap₂, ◌∙◌, subst, Option, Some, None, arith}
 use Rattle.std.proofs.lemmas.List.{map-append}
-use Rattle.ref_terms.specs.terms.Term.{Term}
 use Rattle.ref_terms.specs.terms.Renamed.{vars}
 use Rattle.ref_terms.specs.unification.Spine.{head_of}
 use Rattle.ref_terms.specs.unification.Unification.{Unification}
 use Rattle.ref_terms.specs.declared.fault.Fault.{Fault}
 use Rattle.ref_terms.specs.search.Fault.{Judged, Good, Bad}
-use Rattle.ref_terms.specs.search.Program.{Program, modes_of, constant_of}
+use Rattle.ref_terms.specs.search.Program.{Program, constant_of}
 use Rattle.ref_terms.specs.search.Value.{is_flex}
 use Rattle.ref_terms.specs.search.Branch.{Goal, Constraint, Branch}
-use Rattle.ref_terms.specs.search.State.{Candidate, Alternative, later_clauses, other_side, Event, Moved, Printed, Answered, Failure, Faulted, State, Running, Ended, Over, Move, goes_on, faults}
+use Rattle.ref_terms.specs.search.State.{Candidate, Alternative, later_clauses, other_side, State, Running, Ended, Over, Move, goes_on, faults}
 use Rattle.ref_terms.specs.search.Resolve.{Resolved, resolve}
 use Rattle.ref_terms.specs.search.RuleInstance.{Firing, after_firing}
 use Rattle.ref_terms.specs.search.FirstRule.{first_firing}
 use Rattle.ref_terms.specs.search.BranchMove.{with_later}
 use Rattle.ref_terms.specs.search.Next.{is_awake, woken_goal, woken, by_goal, by_rule, by_waking, constant_modes, resolve_later, retaken, retry, next}
 use Rattle.ref_terms.specs.search.Renamed.{goal_vars, constraint_vars, branch_vars, candidate_vars, alternative_vars, branch_of}
-use Rattle.ref_terms.specs.search.Alike.{IsRenamingAt, RenamedBranch, RenamedAlternative, RenamedEvent, RenamedState, RenamedMove, Each, Both}
+use Rattle.ref_terms.specs.search.Alike.{IsRenamingAt, RenamedAlternative, RenamedState, RenamedMove, Each}
 use Rattle.ref_terms.proofs.search.ListVars.{map-square, filter-vars, any-vars}
 use Rattle.ref_terms.proofs.search.TermVars.{is_flex-vars, constant-vars}
 use Rattle.ref_terms.proofs.search.Fair.{IsFair, Outcome}
@@ -25,7 +24,7 @@ use Rattle.ref_terms.proofs.search.ResolveVars.{RenamedResolved, resolve-vars}
 use Rattle.ref_terms.proofs.search.AlikeFacts.{branch-renamed, later-renamed, each-length}
 use Rattle.ref_terms.proofs.search.BranchMoveVars.{goes-alike, faults-alike}
 use Rattle.ref_terms.proofs.search.GoalMoveVars.{goal-alike}
-use Rattle.ref_terms.proofs.search.RuleInstanceVars.{RenamedFiring, firing_vars, after-firing-vars}
+use Rattle.ref_terms.proofs.search.RuleInstanceVars.{RenamedFiring, after-firing-vars}
 use Rattle.ref_terms.proofs.search.FirstRuleVars.{first-firing-vars}
 
 awake-vars : (p : ℕ → ℕ) (c : Constraint) → is_awake (constraint_vars p c) ≡ is_awake c
@@ -34,8 +33,8 @@ awake-vars p c = any-vars (vars p) (λ k. not (is_flex k)) (λ k. not (is_flex k
 woken-vars : (p : ℕ → ℕ) (branch : Branch) (barrier : ℕ) (up : List Constraint) → woken (branch_vars p branch) barrier (map (constraint_vars p) up) ≡ branch_vars p (woken branch barrier up)
 woken-vars p branch barrier up =
     let goals : map (woken_goal barrier) (map (constraint_vars p) up) ++ map (goal_vars p) branch.goals ≡ map (goal_vars p) (map (woken_goal barrier) up ++ branch.goals) =
-        ap (λ (gs : List Goal). gs ++ map (goal_vars p) branch.goals) (sym (map-square (goal_vars p) (woken_goal barrier) (woken_goal barrier) (constraint_vars p) (λ c. refl) up))
-        ∙ sym (map-append (goal_vars p) (map (woken_goal barrier) up) branch.goals) in
+    ap (λ (gs : List Goal). gs ++ map (goal_vars p) branch.goals) (sym (map-square (goal_vars p) (woken_goal barrier) (woken_goal barrier) (constraint_vars p) (λ c. refl) up))
+    ∙ sym (map-append (goal_vars p) (map (woken_goal barrier) up) branch.goals) in
     λ i. record (branch_vars p branch) { goals = goals i; store = filter-vars (constraint_vars p) (λ c. not (is_awake c)) (λ c. not (is_awake c)) (λ c. ap not (awake-vars p c)) branch.store i }
 
 module _ (unify : Unification) (fair : IsFair unify) (program : Program) where

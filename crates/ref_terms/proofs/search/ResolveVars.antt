@@ -1,22 +1,21 @@
 -- Resolution, where variables are renamed.
-use Rattle.std.proofs.Common.{◌≡◌, ℕ, suc, ◌+◌, ◌≤◌, Bool, true, false, cond, nat_eq, List, [], ◌∷◌, ◌++◌, map, length, replicate, refl, sym, ap, ap₂, ◌∙◌, subst, Option, Some, None, unwrap_or, arith}
+use Rattle.std.proofs.Common.{◌≡◌, ℕ, ◌≤◌, Bool, true, false, cond, nat_eq, List, [], ◌∷◌, ◌++◌, map, length, replicate, refl, sym, ap, ap₂, ◌∙◌, subst, Option, unwrap_or, arith}
 use Rattle.std.proofs.lemmas.List.{map-append, length-map}
 use Rattle.ref_terms.specs.terms.Term.{Term}
 use Rattle.ref_terms.specs.terms.Renamed.{vars}
 use Rattle.ref_terms.specs.unification.Spine.{args_of}
 use Rattle.ref_terms.specs.unification.Problem.{Equation, Binding, Problem, Answer, Solved, Clashed, Faulted as UnifyFaulted}
-use Rattle.ref_terms.specs.unification.Renamed.{equation_vars, binding_vars, renamed, renamed_answer, IsRenaming}
+use Rattle.ref_terms.specs.unification.Renamed.{equation_vars, binding_vars, renamed_answer}
 use Rattle.ref_terms.specs.unification.Unification.{Unification}
-use Rattle.ref_terms.specs.search.Fault.{Judged, Good, Bad}
+use Rattle.ref_terms.specs.search.Fault.{Judged}
 use Rattle.ref_terms.specs.search.Instance.{ClauseInstance}
 use Rattle.ref_terms.specs.search.Branch.{Goal, Branch, bound_equation, bound_branch}
 use Rattle.ref_terms.specs.search.State.{Candidate, of_program, of_assumption}
-use Rattle.ref_terms.specs.search.Candidates.{choice_of, candidate_instance}
+use Rattle.ref_terms.specs.search.Candidates.{candidate_instance}
 use Rattle.ref_terms.specs.search.Resolve.{Tried, Fits, Clashes, Breaks, equations_at, entered, unified, matched, try_instance, try, Resolved, decided, resolve}
 use Rattle.ref_terms.specs.search.Renamed.{goal_vars, branch_vars, candidate_vars}
 use Rattle.ref_terms.specs.search.Alike.{IsRenamingAt}
 use Rattle.ref_terms.proofs.unification.RenamedLemmas.{args-vars}
-use Rattle.ref_terms.proofs.unification.RunRenamed.{InOrderFrom}
 use Rattle.ref_terms.proofs.search.ListVars.{map-square}
 use Rattle.ref_terms.proofs.search.InstanceVars.{instance_vars, candidate-instance-vars}
 use Rattle.ref_terms.proofs.search.BranchVars.{bound-equation-vars, bound-branch-vars}
@@ -80,8 +79,8 @@ module _ (unify : Unification) (fair : IsFair unify) (p : ℕ → ℕ) (lo : ℕ
       let problem : Problem = record { next_var = q.next_var; equations = map (bound_equation q.bindings) outputs; bindings = [] } in
       let es : map (bound_equation (map (binding_vars p) q.bindings)) (map (equation_vars p) outputs) ≡ map (equation_vars p) (map (bound_equation q.bindings) outputs) = sym (map-square (equation_vars p) (bound_equation q.bindings) (bound_equation (map (binding_vars p) q.bindings)) (equation_vars p) (bound-equation-vars p lo (p lo) good.good q.bindings) outputs) in
       let same : unify 0 (record { next_var = p q.next_var; equations = map (bound_equation (map (binding_vars p) q.bindings)) (map (equation_vars p) outputs); bindings = [] }) ≡ renamed_answer p (unify 0 problem) =
-          ap (λ (zs : List Equation). unify 0 (record { next_var = p q.next_var; equations = zs; bindings = [] })) es
-          ∙ fair.renames p 0 0 problem (unfrozen p lo (p lo) good.good) (in-order-later p lo q.next_var w good.in_order) in
+      ap (λ (zs : List Equation). unify 0 (record { next_var = p q.next_var; equations = zs; bindings = [] })) es
+      ∙ fair.renames p 0 0 problem (unfrozen p lo (p lo) good.good) (in-order-later p lo q.next_var w good.in_order) in
       subst (λ (a : Answer). RenamedTried p lo (unified branch q.bindings (unify 0 problem)) (unified (branch_vars p branch) (map (binding_vars p) q.bindings) a)) (sym same)
       (unified-vars branch q.bindings (unify 0 problem) (grown-weaker lo q.next_var (unify 0 problem) w (fair.grows 0 problem)))
   matched-vars branch outputs (Clashed k) w = tt
@@ -97,18 +96,18 @@ module _ (unify : Unification) (fair : IsFair unify) (p : ℕ → ℕ) (branch :
 
   at-vars : (c : Candidate) (k : ClauseInstance) → branch.next_var ≤ k.next_var → (ss ts : List Term) (ms : List Bool)
       → RenamedTried p branch.next_var
-        (tried_at (entered branch goal rest barrier c k.body) branch goal.names k.next_var branch.next_var ss ts ms)
-        (tried_at (entered (branch_vars p branch) (goal_vars p goal) (map (goal_vars p) rest) barrier (candidate_vars p c) (map (vars p) k.body)) branch goal.names (p k.next_var) (p branch.next_var) (map (vars p) ss) (map (vars p) ts) ms)
+      (tried_at (entered branch goal rest barrier c k.body) branch goal.names k.next_var branch.next_var ss ts ms)
+      (tried_at (entered (branch_vars p branch) (goal_vars p goal) (map (goal_vars p) rest) barrier (candidate_vars p c) (map (vars p) k.body)) branch goal.names (p k.next_var) (p branch.next_var) (map (vars p) ss) (map (vars p) ts) ms)
   at-vars c k low ss ts ms =
       let problem : Problem = record { next_var = k.next_var; equations = equations_at true goal.names ms ss ts; bindings = [] } in
       let same : unify (p branch.next_var) (record { next_var = p k.next_var; equations = equations_at true goal.names ms (map (vars p) ss) (map (vars p) ts); bindings = [] }) ≡ renamed_answer p (unify branch.next_var problem) =
-          ap (λ (zs : List Equation). unify (p branch.next_var) (record { next_var = p k.next_var; equations = zs; bindings = [] })) (equations_at-vars p true goal.names ms ss ts)
-          ∙ fair.renames p branch.next_var (p branch.next_var) problem good.good (in-order-later p branch.next_var k.next_var low good.in_order) in
+      ap (λ (zs : List Equation). unify (p branch.next_var) (record { next_var = p k.next_var; equations = zs; bindings = [] })) (equations_at-vars p true goal.names ms ss ts)
+      ∙ fair.renames p branch.next_var (p branch.next_var) problem good.good (in-order-later p branch.next_var k.next_var low good.in_order) in
       let lengths : nat_eq (length (map (vars p) ss)) (length (map (vars p) ts)) ≡ nat_eq (length ss) (length ts) = ap₂ nat_eq (length-map ss (vars p)) (length-map ts (vars p)) in
       rw (lengths, same, equations_at-vars p false goal.names ms ss ts, entered-vars p branch goal rest barrier c k.body)
       (cond-tried p branch.next_var (nat_eq (length ss) (length ts)) _ _
-        (matched-vars unify fair p branch.next_var good (entered branch goal rest barrier c k.body) (equations_at false goal.names ms ss ts) (unify branch.next_var problem)
-          (grown-weaker branch.next_var k.next_var (unify branch.next_var problem) low (fair.grows branch.next_var problem))))
+      (matched-vars unify fair p branch.next_var good (entered branch goal rest barrier c k.body) (equations_at false goal.names ms ss ts) (unify branch.next_var problem)
+      (grown-weaker branch.next_var k.next_var (unify branch.next_var problem) low (fair.grows branch.next_var problem))))
 
   instance-tried : (c : Candidate) (k : ClauseInstance) → branch.next_var ≤ k.next_var → RenamedTried p branch.next_var (try_instance unify modes branch goal rest barrier c k) (try_instance unify modes (branch_vars p branch) (goal_vars p goal) (map (goal_vars p) rest) barrier (candidate_vars p c) (instance_vars p branch.next_var good.in_order k))
   instance-tried c k low =
@@ -117,7 +116,7 @@ module _ (unify : Unification) (fair : IsFair unify) (p : ℕ → ℕ) (branch :
       let ts = args_of goal.term in
       subst (λ (z : Tried). RenamedTried p branch.next_var (try_instance unify modes branch goal rest barrier c k) z)
       (sym (ap₂ (λ (xs ys : List Term). fits xs ys (unwrap_or modes (replicate (length ys) false))) (args-vars p k.head) (args-vars p goal.term)
-        ∙ ap (λ (n : ℕ). fits (map (vars p) ss) (map (vars p) ts) (unwrap_or modes (replicate n false))) (length-map ts (vars p))))
+      ∙ ap (λ (n : ℕ). fits (map (vars p) ss) (map (vars p) ts) (unwrap_or modes (replicate n false))) (length-map ts (vars p))))
       (at-vars c k low ss ts (unwrap_or modes (replicate (length ts) false)))
 
   pub try-vars : (c : Candidate) → RenamedTried p branch.next_var (try unify modes branch goal rest barrier c) (try unify modes (branch_vars p branch) (goal_vars p goal) (map (goal_vars p) rest) barrier (candidate_vars p c))

@@ -1,10 +1,10 @@
 -- Rule instances and their firing, where variables are renamed.
-use Rattle.std.proofs.Common.{◌≡◌, ℕ, suc, ◌+◌, ◌≤◌, Bool, true, false, cond, ◌&&◌, not, nat_eq, List, [], ◌∷◌, ◌++◌, map, filter, refl, sym, ap, ap₂, ◌∙◌, subst, Option, Some, None, unwrap_or, arith}
+use Rattle.std.proofs.Common.{◌≡◌, ℕ, ◌+◌, ◌≤◌, Bool, true, false, cond, ◌&&◌, not, nat_eq, List, [], ◌∷◌, map, refl, sym, ap, ap₂, ◌∙◌, subst, Option, Some, None, unwrap_or, arith}
 use Rattle.std.specs.List.{list_any, list_all}
 use Rattle.ref_terms.specs.terms.Term.{Term}
 use Rattle.ref_terms.specs.terms.Renamed.{vars}
 use Rattle.ref_terms.specs.unification.Problem.{Equation, Binding, Problem, Answer, Solved, Clashed, Faulted as UnifyFaulted}
-use Rattle.ref_terms.specs.unification.Renamed.{equation_vars, binding_vars, renamed_answer}
+use Rattle.ref_terms.specs.unification.Renamed.{binding_vars, renamed_answer}
 use Rattle.ref_terms.specs.unification.Unification.{Unification}
 use Rattle.ref_terms.specs.search.Reserved.{true_term}
 use Rattle.ref_terms.specs.search.Fault.{Judged, Good, Bad, judged_map}
@@ -16,7 +16,7 @@ use Rattle.ref_terms.specs.search.Joint.{Joint, joint}
 use Rattle.ref_terms.specs.search.RuleTest.{holds}
 use Rattle.ref_terms.specs.search.RuleMatch.{heads_of, fit_heads, match_equations}
 use Rattle.ref_terms.specs.search.RuleInstance.{Firing, is_fired, body_assumptions, matched_value, firing, tested, after_matching, matched_at, admitted, rule_instance, after_firing}
-use Rattle.ref_terms.specs.search.Renamed.{assumption_vars, goal_vars, constraint_vars, branch_vars}
+use Rattle.ref_terms.specs.search.Renamed.{assumption_vars, constraint_vars, branch_vars}
 use Rattle.ref_terms.specs.search.Alike.{IsRenamingAt}
 use Rattle.ref_terms.proofs.search.Fair.{IsFair, AnswerGrown, grown-weaker, Outcome, in-order-later}
 use Rattle.ref_terms.proofs.search.ListVars.{filter-vars, map-after}
@@ -74,8 +74,8 @@ module _ (unify : Unification) (fair : IsFair unify) (p : ℕ → ℕ) (lo : ℕ
       let problem : Problem = record { next_var = lo + r.variables; equations = match_equations r j.names lo (heads_of r) j.maps cs; bindings = [] } in
       let above : lo ≤ lo + r.variables = omega arith in
       let same : unify (p lo) (record { next_var = p lo + r.variables; equations = match_equations r j.names (p lo) (heads_of r) j.maps (map (constraint_vars p) cs); bindings = [] }) ≡ renamed_answer p (unify lo problem) =
-          ap₂ (λ (n : ℕ) (es : List Equation). unify (p lo) (record { next_var = n; equations = es; bindings = [] })) (sym (from-next p lo good.in_order r.variables)) (match-equations-vars p lo good.in_order r j.names (heads_of r) j.maps cs)
-          ∙ fair.renames p lo (p lo) problem good.good (in-order-later p lo (lo + r.variables) above good.in_order) in
+      ap₂ (λ (n : ℕ) (es : List Equation). unify (p lo) (record { next_var = n; equations = es; bindings = [] })) (sym (from-next p lo good.in_order r.variables)) (match-equations-vars p lo good.in_order r j.names (heads_of r) j.maps cs)
+      ∙ fair.renames p lo (p lo) problem good.good (in-order-later p lo (lo + r.variables) above good.in_order) in
       subst (λ (a : Answer). Outcome (RenamedFiring p lo) (matched_at unify lo r fired cs (Some j)) (after_matching r j.names (p lo) fired (map (constraint_vars p) cs) a)) (sym same)
       (after-matching-vars p lo good r j.names fired cs (unify lo problem) (grown-weaker lo (lo + r.variables) (unify lo problem) above (fair.grows lo problem)))
 

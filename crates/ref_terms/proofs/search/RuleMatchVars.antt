@@ -59,8 +59,8 @@ module _ (p : ℕ → ℕ) where
         → equations_of names (args_of (instance names (p next) h.goal)) (map (over_joint map_of) (args_of (vars p c.term))) ≡ map (equation_vars p) (equations_of names (args_of (instance names next h.goal)) (map (over_joint map_of) (args_of c.term)))
     argument-equations-vars h map_of c =
         ap₂ (equations_of names)
-          (ap args_of (sym (instance-vars p next fresh names h.goal)) ∙ args-vars p (instance names next h.goal))
-          (ap (map (over_joint map_of)) (args-vars p c.term) ∙ sym (map-square (vars p) (over_joint map_of) (over_joint map_of) (vars p) (over-joint-vars p map_of) (args_of c.term)))
+        (ap args_of (sym (instance-vars p next fresh names h.goal)) ∙ args-vars p (instance names next h.goal))
+        (ap (map (over_joint map_of)) (args-vars p c.term) ∙ sym (map-square (vars p) (over_joint map_of) (over_joint map_of) (vars p) (over-joint-vars p map_of) (args_of c.term)))
         ∙ equations-vars names (args_of (instance names next h.goal)) (map (over_joint map_of) (args_of c.term))
 
     head-equations-vars : (h : RuleHead) (map_of : List ℕ) (c : Constraint) → head_equations r names (p next) h map_of (constraint_vars p c) ≡ map (equation_vars p) (head_equations r names next h map_of c)

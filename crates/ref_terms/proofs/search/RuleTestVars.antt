@@ -1,9 +1,9 @@
 -- Tests of rules, where variables are renamed.
-use Rattle.std.proofs.Common.{◌≡◌, ℕ, Bool, not, List, [], ◌∷◌, map, refl, ap, ap₂, ◌∙◌, Option, Some, None, option_and_then}
+use Rattle.std.proofs.Common.{◌≡◌, ℕ, not, List, [], ◌∷◌, map, refl, ap, ap₂, ◌∙◌, Option, Some, None}
 use Rattle.ref_terms.specs.terms.Term.{Term}
 use Rattle.ref_terms.specs.terms.Renamed.{vars}
 use Rattle.ref_terms.specs.unification.Spine.{args_of, head_of}
-use Rattle.ref_terms.specs.search.Reserved.{Reserved, Var_word, Name_word, Same_word, Less_word, Nonvar_word, Distinct_word, word_of}
+use Rattle.ref_terms.specs.search.Reserved.{Reserved, Var_word, Name_word, Same_word, Less_word, Nonvar_word, Distinct_word}
 use Rattle.ref_terms.specs.search.Program.{constant_of}
 use Rattle.ref_terms.specs.search.RuleTest.{good_and_true, test_holds, word_at, holds}
 use Rattle.ref_terms.proofs.unification.RenamedLemmas.{args-vars}

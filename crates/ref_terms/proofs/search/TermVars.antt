@@ -1,7 +1,6 @@
 -- What the search asks of a term, where its variables are renamed.
-use Rattle.std.proofs.Common.{◌≡◌, ℕ, zero, suc, ◌+◌, Bool, true, false, cond, not, ◌&&◌, nat_eq, nat_lt, List, [], ◌∷◌, ◌++◌, map, length, refl, sym, ap, ap₂, ◌∙◌, Option, Some, None, option_map, arith}
+use Rattle.std.proofs.Common.{◌≡◌, ℕ, Bool, true, false, cond, ◌&&◌, nat_eq, List, [], ◌∷◌, ◌++◌, map, refl, ap, ap₂, ◌∙◌, Option, Some, None, option_map, arith}
 use Rattle.std.proofs.lemmas.Bool.{le-ltb}
-use Rattle.std.specs.Ordering.{int_eq}
 use Rattle.ref_terms.specs.terms.Term.{Term, Lam, At, App, Head, Con, Int, Str, Name, Bound, Var}
 use Rattle.ref_terms.specs.terms.Renamed.{vars, vars_head}
 use Rattle.ref_terms.specs.unification.Spine.{args_of, head_of}

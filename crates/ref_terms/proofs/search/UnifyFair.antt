@@ -1,8 +1,8 @@
 -- `unify` sees no difference between renamed problems.
-use Rattle.std.proofs.Common.{◌≡◌, ℕ, suc, ◌≤◌, Option, Some, None, option_map, refl, sym, ap, ◌∙◌, subst, arith}
+use Rattle.std.proofs.Common.{◌≡◌, ℕ, option_map, ap, ◌∙◌, arith}
 use Rattle.ref_terms.specs.unification.Problem.{Problem, Answer, Solved, Clashed, Faulted}
 use Rattle.ref_terms.specs.unification.Renamed.{renamed, renamed_answer, IsRenaming}
-use Rattle.ref_terms.specs.unification.Run.{run, Unifies}
+use Rattle.ref_terms.specs.unification.Run.{Unifies}
 use Rattle.ref_terms.specs.unification.Unification.{unify}
 use Rattle.ref_terms.specs.ending.Ending.{unification-ends}
 use Rattle.ref_terms.proofs.unification.OneAnswer.{one_answer}
