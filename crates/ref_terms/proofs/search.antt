@@ -20,3 +20,5 @@ pub mod UnifyFair
 pub mod NextVars
 pub mod AnswerVars
 pub mod AlikeRuns
+pub mod BarrierVars
+pub mod KeptCounts

@@ -23,4 +23,5 @@ pub mod RuleInstance
 pub mod RuleMatch
 pub mod RuleTest
 pub mod State
+pub mod Strip
 pub mod Value
