@@ -22,3 +22,4 @@ pub mod AnswerVars
 pub mod AlikeRuns
 pub mod BarrierVars
 pub mod KeptCounts
+pub mod CountedMoves
