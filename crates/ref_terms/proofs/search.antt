@@ -23,3 +23,4 @@ pub mod AlikeRuns
 pub mod BarrierVars
 pub mod KeptCounts
 pub mod CountedMoves
+pub mod StripMoves
