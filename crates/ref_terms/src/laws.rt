@@ -3,7 +3,7 @@
 ghost use Rattle.ref_terms.specs.laws.TermLaws.{FillTwiceIsOnce, FillAppliesTheSame, FillAbstractsTheSame, InstanceApplies, InstanceOfAllApplies, ApplicationBuilds, AbstractionBuilds, FillBuilds, BuiltStays, AbsentVariable, OpeningIsReplacing, ApplicationOpens, AbstractionUndoesApplication, ApplicationUndoesAbstraction};
 ghost use Rattle.ref_terms.specs.laws.ReadyLaws.{NameIsReady, BoundIndexIsReady, ReadyIsRigid, ReadyAfterInstance, ReadyAfterOpening, UnreadyAfterOpening};
 ghost use Rattle.ref_terms.specs.laws.UnifyLaws.{HasOneAnswer, UnificationEnds, UnifyIsReached, UnifyIsTheOnlyAnswer, StepKeepsAnswer, LastStepAnswers, StepsFall, LastStepIsOne};
-ghost use Rattle.ref_terms.specs.laws.SearchLaws.{RenamedProblemHasRenamedAnswer, RenamedStatesMoveRenamed, AlikeStatesMoveAlike, AlikeEventsShowTheSame, AlikeStatesShowTheSame};
+ghost use Rattle.ref_terms.specs.laws.SearchLaws.{RenamedProblemHasRenamedAnswer, RenamedStatesMoveRenamed, AlikeStatesMoveAlike, AlikeEventsShowTheSame, AlikeStatesShowTheSame, StrippedStateMovesStripped, AlikeStatesStripAlike, AlikeOnceStrippedMoveAlike, AlikeOnceStrippedShowTheSame, FirstStateIsCounted, CountedStateMovesCounted};
 ghost use Rattle.ref_terms.specs.unification.MostGeneral.{MostGeneral};
 ghost use Rattle.ref_terms.specs.unification.RealClash.{RealClash, RealClashes};
 
@@ -123,4 +123,23 @@ pub fn law_alike_moves()
 pub fn law_alike_texts()
     ensures event { AlikeEventsShowTheSame }
     ensures run { AlikeStatesShowTheSame }
+{}
+
+/// Each barrier of a search is a number of alternatives that are there, and barriers don't rise from
+/// goal to goal. The first state of each query is so, and every move keeps it.
+pub fn law_counted_states()
+    ensures first { FirstStateIsCounted }
+    ensures moves { CountedStateMovesCounted }
+{}
+
+/// Clauses of alternatives that are bound to clash make no difference: the move of a stripped state
+/// is the stripped move, with the same event.
+///
+/// So an engine that never lists such clauses is compared with the search after both are stripped:
+/// states that are alike once stripped stay so, with alike events, and write the same.
+pub fn law_stripped_states()
+    ensures moves { StrippedStateMovesStripped }
+    ensures strips { AlikeStatesStripAlike }
+    ensures alike { AlikeOnceStrippedMoveAlike }
+    ensures run { AlikeOnceStrippedShowTheSame }
 {}

@@ -59,7 +59,7 @@ module _ (table : List (List ℕ)) (variables : List QueryVar) where
   alike-shown e f (through w v) = alike-shown e _ w ∙ alike-shown _ f v
 
   -- after events that show the same: none follows a failure or a fault
-  following-shown : (later later' : State → List Event) (e f : Event) (s t : State) → shown table variables e ≡ shown table variables f
+  pub following-shown : (later later' : State → List Event) (e f : Event) (s t : State) → shown table variables e ≡ shown table variables f
       → map (shown table variables) (later s) ≡ map (shown table variables) (later' t)
       → map (shown table variables) (following later e s) ≡ map (shown table variables) (following later' f t)
   following-shown later later' Moved Moved v w h k = ap₂ (λ (x : Shown) (xs : List Shown). x ∷ xs) h k

@@ -1,11 +1,11 @@
 -- No move of one branch depends on its barriers.
-use Rattle.std.proofs.Common.{◌≡◌, ℕ, Bool, true, false, cond, not, nat_eq, List, [], ◌∷◌, ◌++◌, map, length, replicate, filter, refl, sym, ap, ap₂, ◌∙◌, Option, Some, None, option_map, unwrap_or}
+use Rattle.std.proofs.Common.{◌≡◌, ℕ, Bool, true, false, cond, not, nat_eq, List, [], ◌∷◌, ◌++◌, map, length, replicate, filter, refl, sym, ap, ap₂, ◌∙◌, Option, option_map, unwrap_or}
 use Rattle.std.proofs.lemmas.List.{map-append}
 use Rattle.ref_terms.specs.terms.Term.{Term}
 use Rattle.ref_terms.specs.unification.Spine.{args_of}
 use Rattle.ref_terms.specs.unification.Problem.{Equation, Binding, Answer, Solved, Clashed, Faulted as UnifyFaulted}
 use Rattle.ref_terms.specs.unification.Unification.{Unification}
-use Rattle.ref_terms.specs.search.Fault.{Judged, Good, Bad, judged_map}
+use Rattle.ref_terms.specs.search.Fault.{Judged, judged_map}
 use Rattle.ref_terms.specs.search.Instance.{ClauseInstance}
 use Rattle.ref_terms.specs.search.Branch.{Goal, Branch, bound_equation, bound_goal, bound_branch}
 use Rattle.ref_terms.specs.search.State.{Candidate}

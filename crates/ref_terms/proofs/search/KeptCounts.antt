@@ -193,7 +193,7 @@ module _ (unify : Unification) (program : Program) where
   strip-later xs b cs ds any same =
       let f = kept_of unify program xs in
       ap₂ (λ (k : Bool) (y : Alternative). cond k (y ∷ strip_all unify program (strip_all unify program xs)) (strip_all unify program (strip_all unify program xs)))
-        (kept-counted f b ds ∙ any) (ap₂ later_clauses (barriers-twice xs b) (open-clauses f b ds ∙ same))
+      (kept-counted f b ds ∙ any) (ap₂ later_clauses (barriers-twice xs b) (open-clauses f b ds ∙ same))
       ∙ ap (λ (ys : List Alternative). cond (is_kept unify program (later_clauses b cs)) (stripped unify program xs (later_clauses b cs) ∷ ys) ys) (strip-twice xs)
 
   -- without those that clash

@@ -1,12 +1,12 @@
 -- The move of a stripped state is the stripped move, with the same event.
-use Rattle.std.proofs.Common.{◌≡◌, ℕ, zero, suc, ◌≤◌, Bool, true, false, cond, not, ◌||◌, ℤ, List, [], ◌∷◌, ◌++◌, map, length, filter, refl, sym, ap, ap₂, ◌∙◌, subst, Option, Some, None, option_map, arith}
+use Rattle.std.proofs.Common.{◌≡◌, ℕ, suc, ◌≤◌, Bool, true, false, cond, not, ◌||◌, ℤ, List, [], ◌∷◌, ◌++◌, map, length, filter, refl, sym, ap, ap₂, ◌∙◌, subst, Option, Some, None, option_map, arith}
 use Rattle.std.proofs.lemmas.List.{map-append}
 use Rattle.std.specs.List.{list_any}
 use Rattle.ref_terms.specs.terms.Term.{Term, At, Int, Name}
 use Rattle.ref_terms.specs.terms.Apply.{apply}
 use Rattle.ref_terms.specs.search.Instance.{variable_under}
 use Rattle.ref_terms.specs.unification.Spine.{head_of}
-use Rattle.ref_terms.specs.unification.Problem.{Binding, Answer, Solved, Clashed, Faulted as UnifyFaulted}
+use Rattle.ref_terms.specs.unification.Problem.{Answer, Solved, Clashed, Faulted as UnifyFaulted}
 use Rattle.ref_terms.specs.unification.Unification.{Unification}
 use Rattle.ref_terms.specs.declared.fault.Fault.{Fault}
 use Rattle.ref_terms.specs.declared.path.Choice.TheVariants.{Left as LeftSide, Right as RightSide}
@@ -18,7 +18,7 @@ use Rattle.ref_terms.specs.search.Value.{term_eq, is_flex, is_bare_name}
 use Rattle.ref_terms.specs.search.Arithmetic.{less, value_of}
 use Rattle.ref_terms.specs.search.Formula.{GoalKind, Truth, Failing, Cut, Conjunction, Disjunction, Assuming, ForAll, Exists, Suspending, Unifying, Comparing, Less, IsVariable, IsName, Printing, Evaluating, Applying, Atom, Wrong, goal_kind}
 use Rattle.ref_terms.specs.search.Branch.{Goal, Constraint, Branch, bound_branch, with_goals, goals_at}
-use Rattle.ref_terms.specs.search.State.{Candidate, Alternative, later_clauses, other_side, Event, Answered, State, Running, Ended, Over, Move, goes_on, faults}
+use Rattle.ref_terms.specs.search.State.{Candidate, Alternative, later_clauses, other_side, Answered, State, Running, Ended, Over, Move, goes_on, faults}
 use Rattle.ref_terms.specs.search.Candidates.{candidates, call_fault}
 use Rattle.ref_terms.specs.search.Resolve.{Resolved, resolve}
 use Rattle.ref_terms.specs.search.BranchMove.{fails, cut_to, applied_whole, goes_or_fails, after_unifying, evaluates, compares, assumes, suspends, with_later, enters, calls}
@@ -27,7 +27,7 @@ use Rattle.ref_terms.specs.search.RuleMatch.{heads_of}
 use Rattle.ref_terms.specs.search.RuleInstance.{Firing, rule_instance, after_firing}
 use Rattle.ref_terms.specs.search.FirstRule.{tuples, or_later, first_tuple, first_firing}
 use Rattle.ref_terms.specs.search.Next.{is_awake, woken_goal, woken, by_goal, by_rule, by_waking, constant_modes, resolve_later, retaken, retry, next}
-use Rattle.ref_terms.specs.search.Strip.{recounted, with_barriers, is_clash, clashes_at, is_open, is_kept, kept_of, stripped, strip_all, strip, BarriersFall, AreCounted, IsCounted}
+use Rattle.ref_terms.specs.search.Strip.{recounted, with_barriers, clashes_at, is_open, is_kept, kept_of, stripped, strip_all, strip, BarriersFall, AreCounted, IsCounted}
 use Rattle.ref_terms.proofs.search.ListVars.{map-after}
 use Rattle.ref_terms.proofs.search.BarrierVars.{resolved_counted, bound-counted, try-clash-same, resolve-counted, resolve-open}
 use Rattle.ref_terms.proofs.search.KeptCounts.{falls-map, falls-higher, cut-cut, kept-top, kept-low, kept-bound, strip-cut, kept-twice, barriers-twice, strip-twice, strip-later, strip-later-open, strip-side}
@@ -79,10 +79,12 @@ module _ (unify : Unification) (program : Program) where
     -- with one more alternative of clauses
     later-strips-to : (r b : Branch) (cs ds : List Candidate) → BarriersFall (length xs) r.goals → S (later_clauses (with_barriers f b) ds ∷ S xs) ≡ S (later_clauses b cs ∷ xs)
         → StripsTo (goes_on (with_barriers f r) (with_later (with_barriers f b) ds (S xs))) (goes_on r (with_later b cs xs))
-    later-strips-to r b cs ds w e =
-        (refl, running-strips f (length xs) r (with_later (with_barriers f b) ds (S xs)) (with_later b cs xs) w
+    later-strips-to r b cs ds w e = (
+      refl,
+      running-strips f (length xs) r (with_later (with_barriers f b) ds (S xs)) (with_later b cs xs) w
           (later-strips (with_barriers f b) ds (S xs) ∙ e ∙ sym (later-strips b cs xs))
-          (λ n low. later-kept (f n) (with_barriers f b) ds (S xs) (kept-bound unify program n xs) ∙ kept-twice unify program n xs ∙ sym (later-kept n b cs xs low)))
+          (λ n low. later-kept (f n) (with_barriers f b) ds (S xs) (kept-bound unify program n xs) ∙ kept-twice unify program n xs ∙ sym (later-kept n b cs xs low)),
+    )
 
     module _ (branch : Branch) where
       unified-strips : (a : Answer) → StripsTo (after_unifying (with_barriers f branch) (S xs) a) (after_unifying branch xs a)
@@ -125,22 +127,27 @@ module _ (unify : Unification) (program : Program) where
 
       suspends-strip : (t : Term) (o : Option (List Term)) → StripsTo (suspends (recounted f goal) t (with_barriers f branch) (map (recounted f) rest) (S xs) o) (suspends goal t branch rest xs o)
       suspends-strip t None = (refl, refl)
-      suspends-strip t (Some ks) = (refl, ap₂ Running (barriers-twice unify program xs (record branch {
-        goals = rest;
-        store = branch.store ++ record { number = suc branch.declared; names = goal.names; assumptions = goal.assumptions; term = t; keys = ks } ∷ [];
-        declared = suc branch.declared;
-      })) (strip-twice unify program xs))
+      suspends-strip t (Some ks) = (
+        refl,
+        ap₂ Running (barriers-twice unify program xs (record branch {
+          goals = rest;
+          store = branch.store ++ record { number = suc branch.declared; names = goal.names; assumptions = goal.assumptions; term = t; keys = ks } ∷ [];
+          declared = suc branch.declared;
+        })) (strip-twice unify program xs),
+      )
 
       -- cut
       cut-strips : StripsTo (goes_on (with_goals (map (recounted f) rest) (with_barriers f branch)) (cut_to (f goal.barrier) (S xs))) (goes_on (with_goals rest branch) (cut_to goal.barrier xs))
-      cut-strips =
-          (refl, running-strips f goal.barrier (with_goals rest branch) (cut_to (f goal.barrier) (S xs)) (cut_to goal.barrier xs) w.1
+      cut-strips = (
+        refl,
+        running-strips f goal.barrier (with_goals rest branch) (cut_to (f goal.barrier) (S xs)) (cut_to goal.barrier xs) w.1
             (ap S (sym (strip-cut unify program goal.barrier xs)) ∙ strip-twice unify program (cut_to goal.barrier xs))
             (λ n low.
-              let same : kept (cut_to goal.barrier xs) n ≡ f n = ap (λ (ys : List Alternative). length (filter (is_kept unify program) ys)) (cut-cut n goal.barrier xs low) in
-              ap (λ (ys : List Alternative). kept ys (f n)) (sym (strip-cut unify program goal.barrier xs))
-              ∙ ap (kept (S (cut_to goal.barrier xs))) (sym same)
-              ∙ kept-twice unify program n (cut_to goal.barrier xs)))
+            let same : kept (cut_to goal.barrier xs) n ≡ f n = ap (λ (ys : List Alternative). length (filter (is_kept unify program) ys)) (cut-cut n goal.barrier xs low) in
+            ap (λ (ys : List Alternative). kept ys (f n)) (sym (strip-cut unify program goal.barrier xs))
+            ∙ ap (kept (S (cut_to goal.barrier xs))) (sym same)
+            ∙ kept-twice unify program n (cut_to goal.barrier xs)),
+      )
 
       kind-strips : (k : GoalKind) → StripsTo (kind_move unify program (with_barriers f branch) (recounted f goal) (map (recounted f) rest) (S xs) k) (kind_move unify program branch goal rest xs k)
       kind-strips Truth = goes-strips (with_goals rest branch) (with_barriers f (with_goals rest branch)) refl
@@ -149,10 +156,12 @@ module _ (unify : Unification) (program : Program) where
       kind-strips (Conjunction s t) = (refl, ap₂ Running (barriers-twice unify program xs (with_goals (goals_at goal (s ∷ t ∷ []) ++ rest) branch)) (strip-twice unify program xs))
       kind-strips (Disjunction s t) =
           let left : Branch = record branch { goals = goals_at goal (s ∷ []) ++ rest; path = LeftSide ∷ branch.path } in
-          let right : Branch = record branch { goals = goals_at goal (t ∷ []) ++ rest; path = RightSide ∷ branch.path } in
-          (refl, running-strips f (length xs) left (other_side (with_barriers f right) ∷ S xs) (other_side right ∷ xs) w
-            (strip-side unify program xs right)
-            (λ n low. kept-low unify program (f n) (other_side (with_barriers f right)) (S xs) (kept-bound unify program n xs) ∙ kept-twice unify program n xs ∙ sym (kept-low unify program n (other_side right) xs low)))
+          let right : Branch = record branch { goals = goals_at goal (t ∷ []) ++ rest; path = RightSide ∷ branch.path } in (
+            refl,
+            running-strips f (length xs) left (other_side (with_barriers f right) ∷ S xs) (other_side right ∷ xs) w
+                (strip-side unify program xs right)
+                (λ n low. kept-low unify program (f n) (other_side (with_barriers f right)) (S xs) (kept-bound unify program n xs) ∙ kept-twice unify program n xs ∙ sym (kept-low unify program n (other_side right) xs low)),
+          )
       kind-strips (Assuming d t) = assumes-strip t (assumptions_of goal.names d)
       kind-strips (ForAll g) = (refl, ap₂ Running (barriers-twice unify program xs (with_goals (record goal { names = suc goal.names; term = apply g (At (Name goal.names)) } ∷ rest) branch)) (strip-twice unify program xs))
       kind-strips (Exists g) = (refl, ap₂ Running (barriers-twice unify program xs (record branch { goals = goals_at goal (applied_whole g (variable_under goal.names branch.next_var) ∷ []) ++ rest; next_var = suc branch.next_var })) (strip-twice unify program xs))
@@ -261,10 +270,10 @@ module _ (unify : Unification) (program : Program) where
       go true e k =
           let f = kept xs in
           let same : resolve_later unify program (with_barriers f b) (length (S xs)) (filter (is_open unify program b) cs) (map (recounted f) b.goals) ≡ option_map (judged_map (resolved_counted f (filter (is_open unify program b)))) (resolve_later unify program b (length xs) cs b.goals) =
-              ap (λ (n : ℕ). resolve_later unify program (with_barriers f b) n (filter (is_open unify program b) cs) (map (recounted f) b.goals)) (top-same xs)
-              ∙ counted-later f b (length xs) (filter (is_open unify program b) cs) b.goals
-              ∙ ap (option_map (judged_map (resolved_counted f (λ ds. ds)))) (open-later b (length xs) cs b.goals)
-              ∙ both-mapped f (is_open unify program b) (resolve_later unify program b (length xs) cs b.goals) in
+          ap (λ (n : ℕ). resolve_later unify program (with_barriers f b) n (filter (is_open unify program b) cs) (map (recounted f) b.goals)) (top-same xs)
+          ∙ counted-later f b (length xs) (filter (is_open unify program b) cs) b.goals
+          ∙ ap (option_map (judged_map (resolved_counted f (λ ds. ds)))) (open-later b (length xs) cs b.goals)
+          ∙ both-mapped f (is_open unify program b) (resolve_later unify program b (length xs) cs b.goals) in
           subst (λ (o : Option (Judged Resolved)). StripsTo (retaken (with_barriers f b) (S xs) (retry unify program (S xs)) o) (retry unify program (later_clauses b cs ∷ xs))) (sym same)
           (retaken-strips xs b w.0 cs (retry unify program xs) (retry unify program (S xs)) k (resolve_later unify program b (length xs) cs b.goals) (later-falls unify program b (length xs) cs b.goals w.0))
       go false e k = subst (λ (o : Option (Judged Resolved)). StripsTo (retry unify program (S xs)) (retaken b xs (retry unify program xs) o)) (sym (all-clash b (length xs) cs e)) k

@@ -12,6 +12,7 @@ use Rattle.ref_terms.specs.search.Resolve.{Unification, Tried, Clashes, try}
 use Rattle.ref_terms.specs.search.BranchMove.{cut_to}
 use Rattle.ref_terms.specs.search.Next.{constant_modes}
 use Rattle.ref_terms.specs.search.Renamed.{branch_of}
+use Rattle.ref_terms.specs.search.Alike.{AlikeState}
 
 -- a goal with its barrier counted anew
 abbrev pub recounted : (ℕ → ℕ) → Goal → Goal
@@ -75,3 +76,7 @@ abbrev pub IsCounted : State → Type 0
 IsCounted (Running b xs) = BarriersFall (length xs) b.goals × AreCounted xs
 IsCounted (Ended b xs) = AreCounted xs
 IsCounted (Over e) = Unit {0}
+
+-- states that are alike once both are stripped
+abbrev pub AlikeOnceStripped : Unification → Program → State → State → Type 0
+AlikeOnceStripped unify program s t = AlikeState (strip unify program s) (strip unify program t)
