@@ -1,3 +1,4 @@
 pub mod ReadyLaws
+pub mod SearchLaws
 pub mod TermLaws
 pub mod UnifyLaws

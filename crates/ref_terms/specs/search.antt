@@ -1,3 +1,4 @@
+pub mod Alike
 pub mod Arithmetic
 pub mod Assumption
 pub mod Branch
@@ -15,10 +16,12 @@ pub mod Joint
 pub mod Lists
 pub mod Next
 pub mod Program
+pub mod Renamed
 pub mod Reserved
 pub mod Resolve
 pub mod RuleInstance
 pub mod RuleMatch
 pub mod RuleTest
 pub mod State
+pub mod Strip
 pub mod Value

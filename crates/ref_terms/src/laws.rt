@@ -3,6 +3,7 @@
 ghost use Rattle.ref_terms.specs.laws.TermLaws.{FillTwiceIsOnce, FillAppliesTheSame, FillAbstractsTheSame, InstanceApplies, InstanceOfAllApplies, ApplicationBuilds, AbstractionBuilds, FillBuilds, BuiltStays, AbsentVariable, OpeningIsReplacing, ApplicationOpens, AbstractionUndoesApplication, ApplicationUndoesAbstraction};
 ghost use Rattle.ref_terms.specs.laws.ReadyLaws.{NameIsReady, BoundIndexIsReady, ReadyIsRigid, ReadyAfterInstance, ReadyAfterOpening, UnreadyAfterOpening};
 ghost use Rattle.ref_terms.specs.laws.UnifyLaws.{HasOneAnswer, UnificationEnds, UnifyIsReached, UnifyIsTheOnlyAnswer, StepKeepsAnswer, LastStepAnswers, StepsFall, LastStepIsOne};
+ghost use Rattle.ref_terms.specs.laws.SearchLaws.{RenamedProblemHasRenamedAnswer, RenamedStatesMoveRenamed, AlikeStatesMoveAlike, AlikeEventsShowTheSame, AlikeStatesShowTheSame, StrippedStateMovesStripped, AlikeStatesStripAlike, AlikeOnceStrippedMoveAlike, AlikeOnceStrippedShowTheSame, FirstStateIsCounted, CountedStateMovesCounted};
 ghost use Rattle.ref_terms.specs.unification.MostGeneral.{MostGeneral};
 ghost use Rattle.ref_terms.specs.unification.RealClash.{RealClash, RealClashes};
 
@@ -98,4 +99,47 @@ pub fn law_most_general()
 pub fn law_real_clashes()
     ensures rule { RealClash }
     ensures run { RealClashes }
+{}
+
+/// Unification doesn't depend on the numbers of variables: a renamed problem has the renamed answer.
+///
+/// The renaming is one to one, keeps frozen variables frozen, and goes on in order from the next
+/// free number on, so that fresh variables are renamed to fresh ones.
+pub fn law_renamed_problem()
+    ensures { RenamedProblemHasRenamedAnswer }
+{}
+
+/// No move of the search depends on the numbers of variables, with constraint rules or without.
+///
+/// `renamed` says so of one state and the same state renamed, where the present branch and each
+/// alternative have a renaming of their own; `alike` says so of the least equivalence with these.
+pub fn law_alike_moves()
+    ensures renamed { RenamedStatesMoveRenamed }
+    ensures alike { AlikeStatesMoveAlike }
+{}
+
+/// What is written doesn't depend on the numbers of variables: alike events show the same, and so do
+/// all events of alike states, however many moves they make.
+pub fn law_alike_texts()
+    ensures event { AlikeEventsShowTheSame }
+    ensures run { AlikeStatesShowTheSame }
+{}
+
+/// Each barrier of a search is a number of alternatives that are there, and barriers don't rise from
+/// goal to goal. The first state of each query is so, and every move keeps it.
+pub fn law_counted_states()
+    ensures first { FirstStateIsCounted }
+    ensures moves { CountedStateMovesCounted }
+{}
+
+/// Clauses of alternatives that are bound to clash make no difference: the move of a stripped state
+/// is the stripped move, with the same event.
+///
+/// So an engine that never lists such clauses is compared with the search after both are stripped:
+/// states that are alike once stripped stay so, with alike events, and write the same.
+pub fn law_stripped_states()
+    ensures moves { StrippedStateMovesStripped }
+    ensures strips { AlikeStatesStripAlike }
+    ensures alike { AlikeOnceStrippedMoveAlike }
+    ensures run { AlikeOnceStrippedShowTheSame }
 {}

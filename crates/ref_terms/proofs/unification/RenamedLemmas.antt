@@ -19,12 +19,12 @@ use Rattle.ref_terms.specs.unification.Rules.{same_variable, two_variables, by_v
 use Rattle.ref_terms.specs.unification.Positions.{agreeing, shared, positions_of, all_but}
 use Rattle.ref_terms.specs.unification.Renamed.{equation_vars, binding_vars, renamed, renamed_step, IsRenaming}
 
-args-vars : (p : ℕ → ℕ) (t : Term) → args_of (vars p t) ≡ map (vars p) (args_of t)
+pub args-vars : (p : ℕ → ℕ) (t : Term) → args_of (vars p t) ≡ map (vars p) (args_of t)
 args-vars p (Lam b) = refl
 args-vars p (At h) = refl
 args-vars p (App f a) = ap (λ xs. xs ++ vars p a ∷ []) (args-vars p f) ∙ sym (map-append (vars p) (args_of f) (a ∷ []))
 
-head-vars : (p : ℕ → ℕ) (t : Term) → head_of (vars p t) ≡ option_map (vars_head p) (head_of t)
+pub head-vars : (p : ℕ → ℕ) (t : Term) → head_of (vars p t) ≡ option_map (vars_head p) (head_of t)
 head-vars p (Lam b) = refl
 head-vars p (At h) = refl
 head-vars p (App f a) = head-vars p f
@@ -35,11 +35,11 @@ spine_name-vars p (At (Bound n)) = refl
 spine_name-vars p (At _) = refl
 spine_name-vars p _ = refl
 
-pattern-vars : (p : ℕ → ℕ) (ts : List Term) → pattern_of (map (vars p) ts) ≡ pattern_of ts
+pub pattern-vars : (p : ℕ → ℕ) (ts : List Term) → pattern_of (map (vars p) ts) ≡ pattern_of ts
 pattern-vars p [] = refl
 pattern-vars p (t ∷ ts) = rw (spine_name-vars p t, pattern-vars p ts) refl
 
-apply_all-vars : (p : ℕ → ℕ) (t : Term) (ts : List Term) → vars p (apply_all t ts) ≡ apply_all (vars p t) (map (vars p) ts)
+pub apply_all-vars : (p : ℕ → ℕ) (t : Term) (ts : List Term) → vars p (apply_all t ts) ≡ apply_all (vars p t) (map (vars p) ts)
 apply_all-vars p t [] = refl
 apply_all-vars p t (a ∷ ts) = apply_all-vars p (apply t a) ts ∙ ap (λ u. apply_all u (map (vars p) ts)) (apply-vars p t a)
 
@@ -52,14 +52,14 @@ closing-vars p n (Name k) = go (nat_eq n k)
 closing-vars p n (Con c) = refl
 closing-vars p n _ = refl
 
-close-vars : (p : ℕ → ℕ) (n : ℕ) (t : Term) → vars p (close n t) ≡ close n (vars p t)
+pub close-vars : (p : ℕ → ℕ) (n : ℕ) (t : Term) → vars p (close n t) ≡ close n (vars p t)
 close-vars p n t = lam-vars p (fill (closing n) t) ∙ ap lam (fill-vars p (closing n) (closing n) (closing-vars p n) t)
 
 close_all-vars : (p : ℕ → ℕ) (ns : List ℕ) (t : Term) → vars p (close_all ns t) ≡ close_all ns (vars p t)
 close_all-vars p [] t = refl
 close_all-vars p (n ∷ ns) t = close-vars p n (close_all ns t) ∙ ap (close n) (close_all-vars p ns t)
 
-names-vars : (p : ℕ → ℕ) (ks : List ℕ) → map (vars p) (map (λ i. At (Name i)) ks) ≡ map (λ i. At (Name i)) ks
+pub names-vars : (p : ℕ → ℕ) (ks : List ℕ) → map (vars p) (map (λ i. At (Name i)) ks) ≡ map (λ i. At (Name i)) ks
 names-vars p [] = refl
 names-vars p (k ∷ ks) = ap (λ xs. At (Name k) ∷ xs) (names-vars p ks)
 
