@@ -1,7 +1,6 @@
 -- The causes of a run's statuses.
-use Rattle.std.proofs.Common.{◌≡◌, ℕ, Bool, true, false, List, [], ◌∷◌, ◌++◌, ◌⊎◌, map, length, inl, inr, refl, ap, sym, subst, ◌∙◌, zero-add, None, Some, Ok, Err, IfSome, IsErr, codes}
+use Rattle.std.proofs.Common.{◌≡◌, ℕ, true, false, List, [], ◌∷◌, ◌++◌, ◌⊎◌, map, length, inl, inr, refl, ap, sym, subst, ◌∙◌, zero-add, None, Some, Ok, Err, IfSome, IsErr, codes}
 use Rattle.std.specs.Fmt.{decimal}
-use Rattle.std.specs.List.{concat}
 use Rattle.std.specs.declared.option.Option.{Option}
 use Rattle.std.specs.declared.result.Result.{Result}
 use Rattle.lam_io.specs.declared.byte_text.FileEntry.{FileEntry}
@@ -20,11 +19,11 @@ use Rattle.elpi_cli.specs.declared.status.Status.TheVariants.{Done, NoAnswer, Wo
 use Rattle.elpi_cli.specs.Words.{command}
 use Rattle.elpi_cli.specs.Output.{Output, line, written, searched}
 use Rattle.elpi_cli.specs.Resolve.{program_of, query_of}
-use Rattle.elpi_cli.specs.Texts.{files_read, items_of, items_read, goal_of, not_yet}
+use Rattle.elpi_cli.specs.Texts.{files_read, items_of, items_read, goal_of}
 use Rattle.elpi_cli.specs.Top.{output, command_output, files_output, texts_output, query_output, word_at, file_names, files_for, known_files, IsReached, IsStatusOf, IsRunOf}
-use Rattle.elpi_cli.specs.Causes.{EndsWith, IsFailure, ComesBy, ComesExactlyBy, IsComplete, IsBadWord, IsMissing, IsTooLong, IsReady, IsUnbuiltFile, IsUnbuiltQuery, IsRefused, Searches, Shows, IsFault, IsOutOfSteps, IsNoAnswer, IsDone, HasNoMore, HasStopped}
-use Rattle.elpi_cli.proofs.CausesSearch.{SearchCause, IsCaused, search-cause, search-status}
-use Rattle.elpi_cli.proofs.CausesTexts.{IsFileRefusal, HasFileRefusal, HasTextRefusal, within-files, missing-file, long-file, refused-file, unbuilt-file, built-items, refused-text, all-built, missing_line, too_long_line}
+use Rattle.elpi_cli.specs.Causes.{EndsWith, IsFailure, ComesBy, ComesExactlyBy, IsComplete, IsBadWord, IsMissing, IsTooLong, IsReady, IsUnbuiltFile, IsUnbuiltQuery, IsRefused, Searches, Shows, IsFault, IsOutOfSteps, IsNoAnswer, IsDone}
+use Rattle.elpi_cli.proofs.CausesSearch.{SearchCause, search-cause, search-status}
+use Rattle.elpi_cli.proofs.CausesTexts.{IsFileRefusal, within-files, missing-file, long-file, refused-file, unbuilt-file, built-items, refused-text, all-built, missing_line, too_long_line}
 
 -- the cause of a run's status
 abbrev pub CauseOf : List (List ℕ) → List FileEntry → Status → List ℕ → Type 0
@@ -174,9 +173,10 @@ or-status words told result status same (inr is) = inr (is ∙ same)
 comes : (words : List (List ℕ)) (told : List FileEntry) (result status : Status) → (IsFailure status → ⊥) → IsStatusOf words told result → ComesBy (CauseOf words told status) (output words told) status result
 comes words told result status none is =
     let one = one-status words told result is in
-    let found = run-cause words told in
-    (λ same. (found.0, subst (λ (s : Status). CauseOf words told s found.0) (no-failure words told result status none same one) found.1, found.2),
-    λ last h. or-status words told result status (run-status words told status last h) one)
+    let found = run-cause words told in (
+      λ same. (found.0, subst (λ (s : Status). CauseOf words told s found.0) (no-failure words told result status none same one) found.1, found.2),
+      λ last h. or-status words told result status (run-status words told status last h) one,
+    )
 
 -- each status comes by its cause
 pub whole-cause : (known : Option (List FileEntry)) (words : List (List ℕ)) (result status : Status) → (IsFailure status → ⊥) → IfSome known (λ told. IsStatusOf words told result)
