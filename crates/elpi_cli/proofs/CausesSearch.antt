@@ -110,6 +110,7 @@ at-answer limit count branch later false is wanted go =
       ends = subst (λ (n : ℕ). EndsHere limit n p.rest) (add-answer count (answers_in p.before)) p.ends;
     }
 
+-- events, split where the search ends
 parts : (limit count : ℕ) (shown : List Event) → IsWanted limit count → Parts limit count shown
 parts limit count [] wanted = at-once limit count [] wanted tt
 parts limit count (Moved ∷ later) wanted =
@@ -155,6 +156,7 @@ search-cause table variables limit shown =
     let found = from-first table variables limit p.before p.rest p.way wanted in
     subst (IsCaused limit shown) (sym (ap (written table variables limit 0) p.whole ∙ found.1)) (by-end table variables limit shown p.before p.rest found.0 p.whole p.way wanted ends)
 
+-- after at least one answer a failure is the end of all answers
 no-more : (count : ℕ) → 0 < count → (after_failure count).status ≡ Done
 no-more zero some = absurd (omega arith)
 no-more (suc count) some = refl
