@@ -1,7 +1,6 @@
 -- The causes of a run's statuses.
-use Rattle.std.proofs.Common.{◌≡◌, ℕ, Bool, true, false, List, [], ◌∷◌, ◌++◌, ◌⊎◌, map, length, inl, inr, refl, ap, sym, subst, ◌∙◌, zero-add, None, Some, Ok, Err, IfSome, IsErr, codes}
+use Rattle.std.proofs.Common.{◌≡◌, ℕ, true, false, List, [], ◌∷◌, ◌++◌, ◌⊎◌, map, length, inl, inr, refl, ap, sym, subst, ◌∙◌, zero-add, None, Some, Ok, Err, IfSome, IsErr, codes}
 use Rattle.std.specs.Fmt.{decimal}
-use Rattle.std.specs.List.{concat}
 use Rattle.std.specs.declared.option.Option.{Option}
 use Rattle.std.specs.declared.result.Result.{Result}
 use Rattle.lam_io.specs.declared.byte_text.FileEntry.{FileEntry}
@@ -20,11 +19,11 @@ use Rattle.elpi_cli.specs.declared.status.Status.TheVariants.{Done, NoAnswer, Wo
 use Rattle.elpi_cli.specs.Words.{command}
 use Rattle.elpi_cli.specs.Output.{Output, line, written, searched}
 use Rattle.elpi_cli.specs.Resolve.{program_of, query_of}
-use Rattle.elpi_cli.specs.Texts.{files_read, items_of, items_read, goal_of, not_yet}
+use Rattle.elpi_cli.specs.Texts.{files_read, items_of, items_read, goal_of}
 use Rattle.elpi_cli.specs.Top.{output, command_output, files_output, texts_output, query_output, word_at, file_names, files_for, known_files, IsReached, IsStatusOf, IsRunOf}
-use Rattle.elpi_cli.specs.Causes.{EndsWith, IsFailure, ComesBy, ComesExactlyBy, IsComplete, IsBadWord, IsMissing, IsTooLong, IsReady, IsUnbuiltFile, IsUnbuiltQuery, IsRefused, Searches, Shows, IsFault, IsOutOfSteps, IsNoAnswer, IsDone, HasNoMore, HasStopped}
-use Rattle.elpi_cli.proofs.CausesSearch.{SearchCause, IsCaused, search-cause, search-status}
-use Rattle.elpi_cli.proofs.CausesTexts.{IsFileRefusal, HasFileRefusal, HasTextRefusal, within-files, missing-file, long-file, refused-file, unbuilt-file, built-items, refused-text, all-built, missing_line, too_long_line}
+use Rattle.elpi_cli.specs.Causes.{EndsWith, IsFailure, ComesBy, ComesExactlyBy, IsComplete, IsBadWord, IsMissing, IsTooLong, IsReady, IsUnbuiltFile, IsUnbuiltQuery, IsRefused, Searches, Shows, IsFault, IsOutOfSteps, IsNoAnswer, IsDone}
+use Rattle.elpi_cli.proofs.CausesSearch.{SearchCause, search-cause, search-status}
+use Rattle.elpi_cli.proofs.CausesTexts.{IsFileRefusal, within-files, missing-file, long-file, refused-file, unbuilt-file, built-items, refused-text, all-built, missing_line, too_long_line}
 
 -- the cause of a run's status
 abbrev pub CauseOf : List (List ℕ) → List FileEntry → Status → List ℕ → Type 0
@@ -50,6 +49,7 @@ of-search words told limit shown shows Fault last h = (limit, shown, shows, h)
 of-search words told limit shown shows Budget last h = (limit, shown, shows, h)
 of-search words told limit shown shows status last h = absurd h
 
+-- the cause, where all files are built
 by-goal : (words : List (List ℕ)) (told : List FileEntry) (steps answers : ℕ) (query : List ℕ) (files : List FileEntry) (items : List Item) (goal : Option AstGoal) → IsReady words told steps answers query files → items_read 0 files ≡ Ok items → goal_of query ≡ goal
     → HasCauseIn words told (query_output steps answers items goal)
 by-goal words told steps answers query files items None ready read is =
@@ -62,6 +62,7 @@ by-goal words told steps answers query files items (Some goal) ready read is =
     let found = search-cause p.symbols q.variables answers shown in
     (found.0, of-search words told answers shown (p, q, steps, searches, refl) (written p.symbols q.variables answers 0 shown).status found.0 found.1, found.2)
 
+-- the cause, where all files are read
 by-items : (words : List (List ℕ)) (told : List FileEntry) (steps answers : ℕ) (query : List ℕ) (files : List FileEntry) (r : Result (List Item) Output) → IsReady words told steps answers query files → items_read 0 files ≡ r
     → HasCauseIn words told (texts_output steps answers query r)
 by-items words told steps answers query files (Err refusal) ready is =
@@ -76,6 +77,7 @@ by-refusal : (words : List (List ℕ)) (told : List FileEntry) (name : List ℕ)
 by-refusal words told name refusal reached (inl why) = subst (HasCauseIn words told) (sym why.1) (missing_line name, (name, reached, why.0, refl), ([], refl))
 by-refusal words told name refusal reached (inr why) = subst (HasCauseIn words told) (sym why.1) (too_long_line name, (name, reached, why.0, refl), ([], refl))
 
+-- the cause, where the words are a command
 by-files : (words : List (List ℕ)) (told : List FileEntry) (steps answers query : ℕ) (indices : List ℕ) (r : Result (List FileEntry) Output) → command words ≡ Ok (Run steps answers query indices) → files_read told (map (word_at words) indices) ≡ r
     → HasCauseIn words told (files_output steps answers (word_at words query) r)
 by-files words told steps answers query indices (Err refusal) asked is =
@@ -84,6 +86,7 @@ by-files words told steps answers query indices (Err refusal) asked is =
 by-files words told steps answers query indices (Ok files) asked is =
     by-items words told steps answers (word_at words query) files (items_read 0 files) (record { query_index = query; file_indices = indices; command_is = asked; query_is = refl; files_are = is }) refl
 
+-- the cause, by the words
 by-command : (words : List (List ℕ)) (told : List FileEntry) (c : Result Command ℕ) → command words ≡ c → HasCauseIn words told (command_output words told c)
 by-command words told (Err index) is = (codes "words: bad word at " ++ line (decimal index), (index, is, refl), ([], refl))
 by-command words told (Ok (Run steps answers query indices)) is = by-files words told steps answers query indices (files_read told (map (word_at words) indices)) is refl
@@ -97,6 +100,7 @@ not-among : (before after : List (List ℕ)) (name : List ℕ) → [] ≡ before
 not-among [] after name is = cc
 not-among (first ∷ before) after name is = cc
 
+-- no file is reached where none is named
 not-reached : (told : List FileEntry) (name : List ℕ) → IsReached told [] name → ⊥
 not-reached told name reached = not-among reached.0 reached.1 name reached.2
 
@@ -116,6 +120,7 @@ ready-output words told steps answers query files ready =
     ∙ ap (files_output steps answers (word_at words ready.query_index)) ready.files_are
     ∙ ap (λ (text : List ℕ). texts_output steps answers text (items_read 0 files)) (sym ready.query_is)
 
+-- a text that isn't built is refused
 unbuilt-output : (words : List (List ℕ)) (told : List FileEntry) (steps answers : ℕ) (query : List ℕ) (files : List FileEntry) (name : List ℕ) → IsUnbuiltFile files name ⊎ IsUnbuiltQuery files query name → (texts_output steps answers query (items_read 0 files)).status ≡ Refused
 unbuilt-output words told steps answers query files name (inl h) =
     let none = subst (λ (n : ℕ). items_of n h.1.bytes ≡ None) (sym (zero-add (length h.0))) h.5 in
@@ -163,20 +168,24 @@ one-status words told WriteFault is = inl tt
 one-status words told ReadFault is = inl tt
 one-status words told status is = inr is
 
+-- an answer that is no failure is the reference's status
 no-failure : (words : List (List ℕ)) (told : List FileEntry) (result status : Status) → (IsFailure status → ⊥) → result ≡ status → IsFailure result ⊎ (result ≡ (output words told).status) → (output words told).status ≡ status
 no-failure words told result status none same (inl failure) = absurd (none (subst IsFailure same failure))
 no-failure words told result status none same (inr is) = sym is ∙ same
 
+-- where the reference has this status, it is answered unless memory, a read or a write failed
 or-status : (words : List (List ℕ)) (told : List FileEntry) (result status : Status) → (output words told).status ≡ status → IsFailure result ⊎ (result ≡ (output words told).status) → IsFailure result ⊎ (result ≡ status)
 or-status words told result status same (inl failure) = inl failure
 or-status words told result status same (inr is) = inr (is ∙ same)
 
+-- a status comes exactly by its cause
 comes : (words : List (List ℕ)) (told : List FileEntry) (result status : Status) → (IsFailure status → ⊥) → IsStatusOf words told result → ComesBy (CauseOf words told status) (output words told) status result
 comes words told result status none is =
     let one = one-status words told result is in
-    let found = run-cause words told in
-    (λ same. (found.0, subst (λ (s : Status). CauseOf words told s found.0) (no-failure words told result status none same one) found.1, found.2),
-    λ last h. or-status words told result status (run-status words told status last h) one)
+    let found = run-cause words told in (
+      λ same. (found.0, subst (λ (s : Status). CauseOf words told s found.0) (no-failure words told result status none same one) found.1, found.2),
+      λ last h. or-status words told result status (run-status words told status last h) one,
+    )
 
 -- each status comes by its cause
 pub whole-cause : (known : Option (List FileEntry)) (words : List (List ℕ)) (result status : Status) → (IsFailure status → ⊥) → IfSome known (λ told. IsStatusOf words told result)
@@ -188,12 +197,14 @@ whole-cause (Some told) words result status none is = comes words told result st
 no-read-of : (words : List (List ℕ)) (told : List FileEntry) (name : List ℕ) (index : ℕ) → command words ≡ Err index → IsReached told (file_names words (command words)) name → ⊥
 no-read-of words told name index bad reached = not-reached told name (subst (λ (c : Result Command ℕ). IsReached told (file_names words c) name) bad reached)
 
+-- bad words have their status, unless memory or a write failed
 words-only : (words : List (List ℕ)) (told : List FileEntry) (result : Status) (index : ℕ) → command words ≡ Err index → IsStatusOf words told result → (result ≡ Memory) ⊎ ((result ≡ WriteFault) ⊎ (result ≡ Words))
 words-only words told Memory index bad is = inl refl
 words-only words told WriteFault index bad is = inr (inl refl)
 words-only words told ReadFault index bad is = absurd (no-read-of words told is.0 index bad is.1.0)
 words-only words told status index bad is = inr (inr (is ∙ ap (λ (c : Result Command ℕ). (command_output words told c).status) bad))
 
+-- the same by what the words are, whatever is told of files
 by-words : (files : Option (List FileEntry)) (words : List (List ℕ)) (result : Status) (c : Result Command ℕ) → command words ≡ c → IsErr c → IfSome (known_files words files) (λ told. IsStatusOf words told result)
     → (result ≡ Memory) ⊎ ((result ≡ WriteFault) ⊎ (result ≡ Words))
 by-words files words result (Ok found) is bad status = absurd (let no : false ≡ true = bad in cc)
@@ -205,6 +216,7 @@ pub whole-words : (files : Option (List FileEntry)) (words : List (List ℕ)) (r
     → ComesExactlyBy (IsErr (command words)) Words result
 whole-words files words result only status = (only, λ bad. by-words files words result (command words) refl bad status)
 
+-- memory was wanting, or all was written, where files are told and no read and no write failed
 all-or-memory : (words : List (List ℕ)) (told : List FileEntry) (before after : Option (List ℕ)) (read wrote : Type 0) (result : Status) → (result ≡ ReadFault → read) → (result ≡ WriteFault → wrote) → IsStatusOf words told result → Appended before after (IsRunOf words told read result)
     → (read → ⊥) → (wrote → ⊥) → IsComplete (output words told) before after result
 all-or-memory words told before after read wrote Memory reads writes status bytes no_read no_write = inl refl

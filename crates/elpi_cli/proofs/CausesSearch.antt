@@ -10,14 +10,14 @@ use Rattle.ref_terms.specs.texts.Answer.{answer_block}
 use Rattle.elpi_cli.specs.declared.status.Status.{Status}
 use Rattle.elpi_cli.specs.declared.status.Status.TheVariants.{Done, NoAnswer, Fault, Budget}
 use Rattle.elpi_cli.specs.Output.{Output, line, line_only, preceded, after_failure, written}
-use Rattle.elpi_cli.specs.Causes.{EndsWith, AreOnTheWay, answers_in, IsWanted, ComesTo, HasFaulted, HasNoSteps, HasFailed, HasNoMore, HasStopped}
+use Rattle.elpi_cli.specs.Causes.{EndsWith, AreOnTheWay, answers_in, IsWanted, ComesTo, HasFaulted, HasRunOut, HasFailed, HasNoMore, HasStopped}
 
 -- the cause of a search's status
 abbrev pub SearchCause : Status → (limit : ℕ) → List Event → (last : List ℕ) → Type 0
 SearchCause Done limit shown last = HasNoMore limit shown last ⊎ HasStopped limit shown last
 SearchCause NoAnswer limit shown last = HasFailed limit shown last
 SearchCause Fault limit shown last = HasFaulted limit shown last
-SearchCause Budget limit shown last = HasNoSteps limit shown last
+SearchCause Budget limit shown last = HasRunOut limit shown last
 SearchCause status limit shown last = ⊥
 
 -- one of the causes is there, and its line is the output's last
@@ -50,10 +50,11 @@ on-the-way table variables limit count (Printed text ∷ before) rest way wanted
     (text ∷ later.0, ap (preceded (text ∷ [])) later.1)
 on-the-way table variables limit count (Answered branch ∷ before) rest way wanted =
     let later = on-the-way table variables limit (suc count) before rest way (subst (IsWanted limit) (sym (add-answer count (answers_in before))) wanted) in
-    let block = answer_block table variables (suc count) branch in
-    (block ∷ later.0,
-    goes-on limit count block (line_only (line (codes "stopped")) Done) (written table variables limit (suc count) (before ++ rest)) (not-reached limit count (answers_in before) wanted)
-    ∙ ap (preceded (block ∷ [])) (later.1 ∙ ap (λ (n : ℕ). preceded later.0 (written table variables limit n rest)) (add-answer count (answers_in before))))
+    let block = answer_block table variables (suc count) branch in (
+      block ∷ later.0,
+      goes-on limit count block (line_only (line (codes "stopped")) Done) (written table variables limit (suc count) (before ++ rest)) (not-reached limit count (answers_in before) wanted)
+          ∙ ap (preceded (block ∷ [])) (later.1 ∙ ap (λ (n : ℕ). preceded later.0 (written table variables limit n rest)) (add-answer count (answers_in before))),
+    )
 on-the-way table variables limit count (Failure ∷ before) rest way wanted = absurd way
 on-the-way table variables limit count (Faulted fault ∷ before) rest way wanted = absurd way
 
@@ -109,6 +110,7 @@ at-answer limit count branch later false is wanted go =
       ends = subst (λ (n : ℕ). EndsHere limit n p.rest) (add-answer count (answers_in p.before)) p.ends;
     }
 
+-- events, split where the search ends
 parts : (limit count : ℕ) (shown : List Event) → IsWanted limit count → Parts limit count shown
 parts limit count [] wanted = at-once limit count [] wanted tt
 parts limit count (Moved ∷ later) wanted =
@@ -154,6 +156,7 @@ search-cause table variables limit shown =
     let found = from-first table variables limit p.before p.rest p.way wanted in
     subst (IsCaused limit shown) (sym (ap (written table variables limit 0) p.whole ∙ found.1)) (by-end table variables limit shown p.before p.rest found.0 p.whole p.way wanted ends)
 
+-- after at least one answer a failure is the end of all answers
 no-more : (count : ℕ) → 0 < count → (after_failure count).status ≡ Done
 no-more zero some = absurd (omega arith)
 no-more (suc count) some = refl

@@ -1,5 +1,5 @@
 -- What reading the files and their texts comes to, and why.
-use Rattle.std.proofs.Common.{◌≡◌, ℕ, suc, ◌+◌, ◌<◌, ◌≤◌, Bool, true, false, nat_lt, codes, List, [], ◌∷◌, ◌++◌, length, ◌⊎◌, inl, inr, refl, ap, sym, subst, ◌∙◌, arith, None, Some, Ok, Err, IsSome, IsSomeAnd, add-zero, lt-ltb, ltb-true, ltb-false, le-ltb}
+use Rattle.std.proofs.Common.{◌≡◌, ℕ, ◌+◌, ◌<◌, ◌≤◌, Bool, true, false, nat_lt, codes, List, [], ◌∷◌, ◌++◌, length, ◌⊎◌, inl, inr, refl, ap, sym, subst, ◌∙◌, arith, None, Some, Ok, Err, IsSome, IsSomeAnd, add-zero, lt-ltb, ltb-true, ltb-false, le-ltb}
 use Rattle.std.specs.declared.option.Option.{Option}
 use Rattle.std.specs.declared.result.Result.{Result}
 use Rattle.lam_io.specs.declared.byte_text.FileEntry.{FileEntry}
@@ -11,10 +11,11 @@ use Rattle.elpi_cli.specs.Texts.{file_limit, before_files, with_file, files_read
 use Rattle.elpi_cli.specs.Top.{AreWithin, IsReached}
 use Rattle.elpi_cli.specs.Causes.{AreBuilt}
 
--- the lines of a file that is refused
+-- the line of a file that isn't there
 abbrev pub missing_line : List ℕ → List ℕ
 missing_line name = codes "missing: " ++ line name
 
+-- the line of a file that is too long
 abbrev pub too_long_line : List ℕ → List ℕ
 too_long_line name = codes "too long: " ++ line name
 
@@ -62,6 +63,7 @@ refused-later : (file : FileEntry) (later : Result (List FileEntry) Output) (ref
 refused-later file (Ok files) refusal is = absurd (cc)
 refused-later file (Err other) refusal is = cc
 
+-- the refusal of a file that is there, or of a later one
 by-length : (told : List FileEntry) (name : List ℕ) (names : List (List ℕ)) (refusal : Output) (bytes : List ℕ) (test : Bool) → nat_lt file_limit (length bytes) ≡ test → bytes_of told name ≡ Some bytes
     → ((r : Output) → files_read told names ≡ Err r → HasFileRefusal told names r) → with_file name (Some bytes) (files_read told names) ≡ Err refusal → HasFileRefusal told (name ∷ names) refusal
 by-length told name names refusal bytes true long is go refused =
@@ -71,6 +73,7 @@ by-length told name names refusal bytes false short is go refused =
     later-reached told name names refusal (subst (λ (f : Option (List ℕ)). IsSomeAnd f (λ b. length b ≤ file_limit)) (sym is) (ltb-false file_limit (length bytes) short))
     (go refusal (refused-later (record { name = name; bytes = bytes }) (files_read told names) refusal (rw short at refused)))
 
+-- the refusal of a file, or of a later one
 by-bytes : (told : List FileEntry) (name : List ℕ) (names : List (List ℕ)) (refusal : Output) (found : Option (List ℕ)) → bytes_of told name ≡ found
     → ((r : Output) → files_read told names ≡ Err r → HasFileRefusal told names r) → with_file name found (files_read told names) ≡ Err refusal → HasFileRefusal told (name ∷ names) refusal
 by-bytes told name names refusal None is go refused =
@@ -101,6 +104,7 @@ unbuilt-file file (g ∷ before) f after built is =
     built-file g.name (items_of file g.bytes) (items_read (file + 1) (before ++ f ∷ after)) (not_yet f.name) built.0
     (unbuilt-file (file + 1) before f after built.1 (subst (λ (n : ℕ). items_of n f.bytes ≡ None) (sym (add-file file g before)) is))
 
+-- a file that is built, before others that are
 built-all : (name : List ℕ) (found : Option (List Item)) (later : Result (List Item) Output) → IsSome found → (items : List Item) × (later ≡ Ok items) → (items : List Item) × (with_items name found later ≡ Ok items)
 built-all name None later some h = absurd (let no : false ≡ true = some in cc)
 built-all name (Some items) later some h = (items ++ h.0, ap (with_items name (Some items)) h.1)
@@ -116,10 +120,12 @@ HasTextRefusal file files refusal =
     (before : List FileEntry) × (f : FileEntry) × (after : List FileEntry) × (files ≡ before ++ f ∷ after)
     × AreBuilt file before × (items_of (file + length before) f.bytes ≡ None) × (refusal ≡ not_yet f.name)
 
+-- a later text is refused behind one that is built
 later-text : (file : ℕ) (f : FileEntry) (fs : List FileEntry) (refusal : Output) → IsSome (items_of file f.bytes) → HasTextRefusal (file + 1) fs refusal → HasTextRefusal file (f ∷ fs) refusal
 later-text file f fs refusal some h =
     (f ∷ h.0, h.1, h.2, ap (λ (gs : List FileEntry). f ∷ gs) h.3, (some, h.4), subst (λ (n : ℕ). items_of n h.1.bytes ≡ None) (add-file file f h.0) h.5, h.6)
 
+-- the refusal of a text behind one that is built
 by-later : (file : ℕ) (f : FileEntry) (fs : List FileEntry) (refusal : Output) (items : List Item) (later : Result (List Item) Output) → items_read (file + 1) fs ≡ later → items_of file f.bytes ≡ Some items
     → ((r : Output) → items_read (file + 1) fs ≡ Err r → HasTextRefusal (file + 1) fs r) → with_items f.name (Some items) later ≡ Err refusal → HasTextRefusal file (f ∷ fs) refusal
 by-later file f fs refusal items (Ok more) is found go refused = absurd (cc)
@@ -127,6 +133,7 @@ by-later file f fs refusal items (Err other) is found go refused =
     let same : other ≡ refusal = cc in
     later-text file f fs refusal (subst IsSome (sym found) refl) (go refusal (is ∙ ap (λ (o : Output). Err o) same))
 
+-- the refusal of a text, or of a later one
 by-items : (file : ℕ) (f : FileEntry) (fs : List FileEntry) (refusal : Output) (found : Option (List Item)) → items_of file f.bytes ≡ found
     → ((r : Output) → items_read (file + 1) fs ≡ Err r → HasTextRefusal (file + 1) fs r) → with_items f.name found (items_read (file + 1) fs) ≡ Err refusal → HasTextRefusal file (f ∷ fs) refusal
 by-items file f fs refusal None is go refused =
@@ -139,6 +146,7 @@ pub refused-text : (file : ℕ) (files : List FileEntry) (refusal : Output) → 
 refused-text file [] refusal is = absurd (cc)
 refused-text file (f ∷ fs) refusal is = by-items file f fs refusal (items_of file f.bytes) refl (refused-text (file + 1) fs) is
 
+-- where items are read, the first text is built, and the later ones are read
 all-of-both : (name : List ℕ) (found : Option (List Item)) (later : Result (List Item) Output) (items : List Item) → with_items name found later ≡ Ok items → IsSome found × ((items : List Item) × (later ≡ Ok items))
 all-of-both name None later items is = absurd (cc)
 all-of-both name (Some first) (Ok more) items is = (refl, (more, refl))

@@ -1,5 +1,5 @@
 -- What each status of a run comes of, and the last line that says so.
-use Rattle.std.specs.Prelude.{◌≡◌, ℕ, zero, suc, ◌+◌, ◌<◌, List, [], ◌∷◌, ◌++◌, ◌⊎◌, ⊤, map, length, None, Some, Ok, Err, codes, IsSome, IsSomeAnd}
+use Rattle.std.specs.Prelude.{◌≡◌, ℕ, suc, ◌+◌, ◌<◌, List, [], ◌∷◌, ◌++◌, ◌⊎◌, ⊤, map, length, None, Some, Ok, Err, codes, IsSome, IsSomeAnd}
 use Rattle.std.specs.Fmt.{decimal}
 use Rattle.std.specs.List.{concat}
 use Rattle.std.specs.declared.option.Option.{Option}
@@ -13,7 +13,7 @@ use Rattle.ref_terms.specs.unification.Unification.{unify}
 use Rattle.ref_terms.specs.search.Fault.{fault_name}
 use Rattle.ref_terms.specs.search.Program.{Program, Query}
 use Rattle.ref_terms.specs.search.Branch.{Branch}
-use Rattle.ref_terms.specs.search.State.{Event, Moved, Printed, Answered, Failure, Faulted}
+use Rattle.ref_terms.specs.search.State.{Event, Answered, Failure, Faulted}
 use Rattle.ref_terms.specs.search.Events.{events, first_state}
 use Rattle.elpi_cli.specs.declared.words.Command.TheVariants.{Run}
 use Rattle.elpi_cli.specs.declared.status.Status.{Status}
@@ -140,8 +140,8 @@ HasFaulted limit shown last =
     (before : List Event) × (fault : Fault) × ComesTo limit shown before (Faulted fault) × (last ≡ codes "fault: " ++ line (fault_name fault))
 
 -- no event ends the search, and the limit isn't reached
-abbrev pub HasNoSteps : (limit : ℕ) → List Event → (last : List ℕ) → Type 0
-HasNoSteps limit shown last = AreOnTheWay shown × IsWanted limit (answers_in shown) × (last ≡ line (codes "out of steps"))
+abbrev pub HasRunOut : (limit : ℕ) → List Event → (last : List ℕ) → Type 0
+HasRunOut limit shown last = AreOnTheWay shown × IsWanted limit (answers_in shown) × (last ≡ line (codes "out of steps"))
 
 -- the search comes to a failure, without an answer before it
 abbrev pub HasFailed : (limit : ℕ) → List Event → (last : List ℕ) → Type 0
@@ -165,7 +165,7 @@ IsFault words told last = (limit : ℕ) × (shown : List Event) × Shows words t
 
 -- its steps are used up before an end and before the limit
 abbrev pub IsOutOfSteps : List (List ℕ) → List FileEntry → (last : List ℕ) → Type 0
-IsOutOfSteps words told last = (limit : ℕ) × (shown : List Event) × Shows words told limit shown × HasNoSteps limit shown last
+IsOutOfSteps words told last = (limit : ℕ) × (shown : List Event) × Shows words told limit shown × HasRunOut limit shown last
 
 -- it fails without an answer
 abbrev pub IsNoAnswer : List (List ℕ) → List FileEntry → (last : List ℕ) → Type 0

@@ -39,12 +39,12 @@ pub fn run<F: Files, K: Sink>(
     ensures bytes { IfSome (known_files (texts words.now) (F.told files.old)) (λ told.
         Appended (K.told sink.old) (K.told sink.new) (IsRunOf (texts words.now) told (Rose (F.faults files.old) (F.faults files.new)) result)) }
 
-    // No status gives up: a fault comes only where its count rose, and bad words are answered whatever is told.
+    // A fault comes only where its count rose. Bad words have their status whatever is told of files.
     ensures read_fault { result ≡ Status.ReadFault → Rose (F.faults files.old) (F.faults files.new) }
     ensures write_fault { result ≡ Status.WriteFault → Rose (K.faults sink.old) (K.faults sink.new) }
     ensures words { ComesExactlyBy (IsErr (command (texts words.now))) Status.Words result }
 
-    // Every other status has its cause, which the last line tells; so do bad words.
+    // Each other status comes exactly by its cause, unless memory, a read or a write failed; the last line tells which it was.
     ensures done { IfSome (known_files (texts words.now) (F.told files.old)) (λ told. ComesBy (IsDone (texts words.now) told) (output (texts words.now) told) Status.Done result) }
     ensures no_answer { IfSome (known_files (texts words.now) (F.told files.old)) (λ told. ComesBy (IsNoAnswer (texts words.now) told) (output (texts words.now) told) Status.NoAnswer result) }
     ensures bad_word { IfSome (known_files (texts words.now) (F.told files.old)) (λ told. ComesBy (IsBadWord (texts words.now)) (output (texts words.now) told) Status.Words result) }
