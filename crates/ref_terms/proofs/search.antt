@@ -22,6 +22,8 @@ pub mod RuleInstanceVars
 pub mod RuleMatchVars
 pub mod RuleTestVars
 pub mod StripAlike
+pub mod StripExample
 pub mod StripMoves
 pub mod TermVars
 pub mod UnifyFair
+pub mod UsedVars

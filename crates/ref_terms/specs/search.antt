@@ -24,4 +24,5 @@ pub mod RuleMatch
 pub mod RuleTest
 pub mod State
 pub mod Strip
+pub mod Used
 pub mod Value

@@ -3,7 +3,7 @@
 ghost use Rattle.ref_terms.specs.laws.TermLaws.{FillTwiceIsOnce, FillAppliesTheSame, FillAbstractsTheSame, InstanceApplies, InstanceOfAllApplies, ApplicationBuilds, AbstractionBuilds, FillBuilds, BuiltStays, AbsentVariable, OpeningIsReplacing, ApplicationOpens, AbstractionUndoesApplication, ApplicationUndoesAbstraction};
 ghost use Rattle.ref_terms.specs.laws.ReadyLaws.{NameIsReady, BoundIndexIsReady, ReadyIsRigid, ReadyAfterInstance, ReadyAfterOpening, UnreadyAfterOpening};
 ghost use Rattle.ref_terms.specs.laws.UnifyLaws.{HasOneAnswer, UnificationEnds, UnifyIsReached, UnifyIsTheOnlyAnswer, StepKeepsAnswer, LastStepAnswers, StepsFall, LastStepIsOne};
-ghost use Rattle.ref_terms.specs.laws.SearchLaws.{RenamedProblemHasRenamedAnswer, RenamedStatesMoveRenamed, AlikeStatesMoveAlike, AlikeEventsShowTheSame, AlikeStatesShowTheSame, StrippedStateMovesStripped, AlikeStatesStripAlike, AlikeOnceStrippedMoveAlike, AlikeOnceStrippedShowTheSame, FirstStateIsCounted, CountedStateMovesCounted};
+ghost use Rattle.ref_terms.specs.laws.SearchLaws.{RenamedProblemHasRenamedAnswer, RenamingOfUsedVariables, RenamedStatesMoveRenamed, AlikeStatesMoveAlike, AlikeEventsShowTheSame, AlikeStatesShowTheSame, StrippedStateMovesStripped, AlikeStatesStripAlike, AlikeOnceStrippedMoveAlike, AlikeOnceStrippedShowTheSame, FirstStateIsCounted, CountedStateMovesCounted};
 ghost use Rattle.ref_terms.specs.unification.MostGeneral.{MostGeneral};
 ghost use Rattle.ref_terms.specs.unification.RealClash.{RealClash, RealClashes};
 
@@ -107,6 +107,13 @@ pub fn law_real_clashes()
 /// free number on, so that fresh variables are renamed to fresh ones.
 pub fn law_renamed_problem()
     ensures { RenamedProblemHasRenamedAnswer }
+{}
+
+/// A renaming that is one to one on the variables in use goes on to one of all variables.
+///
+/// So next free numbers make no difference, as long as they are above the variables in use.
+pub fn law_used_variables()
+    ensures { RenamingOfUsedVariables }
 {}
 
 /// No move of the search depends on the numbers of variables, with constraint rules or without.

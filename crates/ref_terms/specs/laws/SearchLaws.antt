@@ -1,19 +1,27 @@
 -- What the laws on alike states of the search say, and those on stripped states.
-use Rattle.std.specs.Prelude.{◌≡◌, ℕ, suc, ◌≤◌, List, map}
+use Rattle.std.specs.Prelude.{◌≡◌, ℕ, suc, ◌<◌, ◌≤◌, List, map}
 use Rattle.ref_terms.specs.unification.Problem.{Problem}
 use Rattle.ref_terms.specs.unification.Renamed.{renamed, renamed_answer, IsRenaming}
 use Rattle.ref_terms.specs.unification.Unification.{unify}
 use Rattle.ref_terms.specs.search.Program.{Program, Query, QueryVar}
+use Rattle.ref_terms.specs.search.Branch.{Branch}
 use Rattle.ref_terms.specs.search.State.{Event, State}
 use Rattle.ref_terms.specs.search.Next.{next}
 use Rattle.ref_terms.specs.search.Events.{events, first_state}
-use Rattle.ref_terms.specs.search.Alike.{RenamedState, RenamedMove, AlikeState, AlikeEvent, AlikeMove, shown}
+use Rattle.ref_terms.specs.search.Renamed.{branch_vars}
+use Rattle.ref_terms.specs.search.Used.{BranchBelow}
+use Rattle.ref_terms.specs.search.Alike.{RenamedBranch, RenamedState, RenamedMove, AlikeState, AlikeEvent, AlikeMove, shown}
 use Rattle.ref_terms.specs.search.Strip.{strip, IsCounted, AlikeOnceStripped}
 
 -- a problem whose variables are renamed, those to come in order, has the answer renamed
 abbrev pub RenamedProblemHasRenamedAnswer : Type 0
 RenamedProblemHasRenamedAnswer = (p : ℕ → ℕ) (m m' : ℕ) (q : Problem) → IsRenaming p m m' → ((k : ℕ) → q.next_var ≤ k → p (suc k) ≡ suc (p k))
     → unify m' (renamed p q) ≡ renamed_answer p (unify m q)
+
+-- a one-to-one renaming of the variables in use is enough for a renamed branch, with any next variable above them
+abbrev pub RenamingOfUsedVariables : Type 0
+RenamingOfUsedVariables = (b : Branch) (p : ℕ → ℕ) (n : ℕ) → BranchBelow b → ((v w : ℕ) → v < b.next_var → w < b.next_var → p v ≡ p w → v ≡ w)
+    → ((v : ℕ) → v < b.next_var → p v < n) → RenamedBranch b (record (branch_vars p b) { next_var = n })
 
 -- one state with its branches renamed moves to the move's state with its branches renamed
 abbrev pub RenamedStatesMoveRenamed : Type 0
