@@ -1,5 +1,5 @@
 -- From what the texts are read as to the output of the run.
-use Rattle.std.proofs.Common.{◌≡◌, ℕ, List, [], ◌∷◌, ◌++◌, map, None, Some, Ok, Err, IfOk, OnOk, MatchOption, true, false, Bool, if◌then◌else◌, refl, ap, sym, subst, ◌∙◌}
+use Rattle.std.proofs.Common.{◌≡◌, ℕ, List, [], ◌∷◌, map, None, Some, Ok, Err, IfOk, OnOk, MatchOption, true, false, Bool, refl, ap, sym, subst, ◌∙◌}
 use Rattle.std.proofs.lemmas.List.{append-nil}
 use Rattle.std.specs.declared.option.Option.{Option}
 use Rattle.std.specs.declared.result.Result.{Result}
@@ -8,16 +8,16 @@ use Rattle.lp_parser.specs.declared.ast.Item.{Item}
 use Rattle.ref_terms.specs.search.Program.{Program, Query, Clause}
 use Rattle.elpi_cli.specs.declared.horn.Span.{Span}
 use Rattle.elpi_cli.specs.declared.horn.Horn.{Horn}
-use Rattle.elpi_cli.specs.HornSearch.{HornState, running}
+use Rattle.elpi_cli.specs.HornSearch.{running}
 use Rattle.elpi_cli.specs.HornProgram.{span_term, clause_term, program_term, query_term, IsProgram}
 use Rattle.elpi_cli.specs.HornOutput.{horn_events, horn_written}
-use Rattle.elpi_cli.specs.Output.{Output, searched}
+use Rattle.elpi_cli.specs.Output.{searched}
 use Rattle.elpi_cli.specs.Symbols.{reserved_names, interned_all}
 use Rattle.elpi_cli.specs.Resolve.{words_of, words_of_items, term_of, clauses_of, are_built, are_built_over, is_horn_query, program_table, query_table, program_of, query_of}
-use Rattle.elpi_cli.specs.Texts.{where_built, with_items, not_yet, goal_of}
-use Rattle.elpi_cli.specs.Top.{query_output, texts_output}
+use Rattle.elpi_cli.specs.Texts.{where_built, with_items, goal_of}
+use Rattle.elpi_cli.specs.Top.{texts_output}
 use Rattle.elpi_cli.specs.Conversion.{IsProgramOf}
-use Rattle.elpi_cli.specs.Begins.{ReadsProgram, IsQueryOf, ReadsQuery}
+use Rattle.elpi_cli.specs.Begins.{ReadsProgram, ReadsQuery}
 use Rattle.elpi_cli.proofs.HornEvents.{same-output}
 
 -- a value that fails the test isn't built

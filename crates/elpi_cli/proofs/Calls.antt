@@ -1,30 +1,27 @@
 -- The call of an atom: what the reference makes of the clauses at the places of its constant.
-use Rattle.std.proofs.Common.{◌≡◌, ℕ, suc, ◌+◌, Bool, true, false, cond, nat_eq, nat_lt, List, [], ◌∷◌, ◌++◌, length, map, replicate, Some, None, refl, ap, sym, subst, ◌∙◌, append_assoc, arith, IsTrue, eqb-true, eq-eqb}
+use Rattle.std.proofs.Common.{◌≡◌, ℕ, ◌+◌, Bool, true, false, cond, nat_eq, nat_lt, List, [], ◌∷◌, length, map, replicate, Some, None, refl, ap, ◌∙◌, eqb-true, eq-eqb}
 use Rattle.std.proofs.lemmas.List.{length-map}
 use Rattle.std.specs.List.{slice_get}
-use Rattle.std.specs.Option.{option_map_or}
 use lib.Pointwise.{pointwise_long}
 use Rattle.std.specs.Str.{bytes_eq as numbers_eq}
 use Rattle.std.specs.declared.option.Option.{Option}
 use Rattle.std.specs.Prelude.{option_to_list, ⊤}
-use Rattle.ref_terms.specs.terms.Term.{Term, At, Con}
-use Rattle.ref_terms.specs.unification.Spine.{args_of, head_of}
+use Rattle.ref_terms.specs.terms.Term.{Term}
+use Rattle.ref_terms.specs.unification.Spine.{args_of}
 use Rattle.ref_terms.specs.unification.Problem.{Equation, Solved, Clashed}
 use Rattle.ref_terms.specs.unification.Unification.{unify}
 use Rattle.ref_terms.specs.search.Fault.{Judged, Good}
-use Rattle.ref_terms.specs.search.Program.{headed_by, from_clauses}
 use Rattle.ref_terms.specs.search.Instance.{ClauseInstance, instance, fresh_for_variable, clause_instance}
 use Rattle.ref_terms.specs.search.Branch.{Goal, Branch, bound_equation, bound_branch}
 use Rattle.ref_terms.specs.search.State.{Candidate, of_program}
-use Rattle.ref_terms.specs.search.Candidates.{program_candidates, candidate_instance}
-use Rattle.ref_terms.specs.search.Resolve.{Tried, Fits, Clashes, equations_at, entered, unified, matched, try_instance, try, Resolved, decided, resolve}
+use Rattle.ref_terms.specs.search.Resolve.{Fits, Clashes, equations_at, entered, unified, try_instance, try, Resolved, decided, resolve}
 use Rattle.elpi_cli.specs.declared.horn.Atom.{Atom}
 use Rattle.elpi_cli.specs.declared.horn.Span.{Span}
 use Rattle.elpi_cli.specs.declared.horn.HornClause.{HornClause}
 use Rattle.elpi_cli.specs.declared.horn.Horn.{Horn}
-use Rattle.elpi_cli.specs.HornSearch.{atoms_of, fits, first_fit, arity_at}
-use Rattle.elpi_cli.specs.HornProgram.{applied, atom_term, span_term, body_term, clause_term, candidate_at, AllThere}
-use Rattle.elpi_cli.proofs.Constants.{constant, args-applied, head-applied, fill-atom, fill-conjunction, constant_equations, constants_problem, unify-none, unify-constants}
+use Rattle.elpi_cli.specs.HornSearch.{atoms_of, first_fit}
+use Rattle.elpi_cli.specs.HornProgram.{atom_term, span_term, body_term, clause_term, candidate_at, AllThere}
+use Rattle.elpi_cli.proofs.Constants.{constant, args-applied, fill-atom, fill-conjunction, constant_equations, constants_problem, unify-none, unify-constants}
 
 -- the equations of the inputs, of which there are none
 pub inputs-none : (ss ts : List ℕ) → equations_at true 0 (replicate (length ts) false) (map constant ss) (map constant ts) ≡ []

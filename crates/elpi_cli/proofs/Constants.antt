@@ -1,12 +1,12 @@
 -- Terms of constants: their parts, their instances, and how they unify.
-use Rattle.std.proofs.Common.{◌≡◌, ℕ, suc, ◌+◌, Bool, true, false, cond, nat_eq, ◌&&◌, List, [], ◌∷◌, ◌++◌, length, map, Some, refl, ap, sym, subst, ◌∙◌, append_assoc, arith}
+use Rattle.std.proofs.Common.{◌≡◌, ℕ, Bool, true, false, cond, nat_eq, ◌&&◌, List, [], ◌∷◌, ◌++◌, length, map, Some, refl, ap, sym, subst, ◌∙◌, append_assoc, arith}
 use Rattle.std.proofs.lemmas.List.{append-nil}
 use Rattle.std.specs.Str.{bytes_eq as numbers_eq}
 use Rattle.ref_terms.specs.terms.Term.{Term, Lam, At, App, Head, Con}
 use Rattle.ref_terms.specs.terms.Apply.{apply, fill}
 use Rattle.ref_terms.specs.unification.Spine.{args_of, head_of}
-use Rattle.ref_terms.specs.unification.Shape.{Shape, Rigid, shape}
-use Rattle.ref_terms.specs.unification.Problem.{Equation, Problem, Answer, Solved, Clashed, Goes, Ends}
+use Rattle.ref_terms.specs.unification.Shape.{Rigid, shape}
+use Rattle.ref_terms.specs.unification.Problem.{Equation, Problem, Solved, Clashed, Goes, Ends}
 use Rattle.ref_terms.specs.unification.Rules.{step}
 use Rattle.ref_terms.specs.unification.Unification.{unify}
 use Rattle.ref_terms.proofs.unification.Steps.{unify-goes, unify-ends}

@@ -1,35 +1,32 @@
 -- Calls, retries and all moves of the search over spans are those of the reference.
-use Rattle.std.proofs.Common.{◌≡◌, ℕ, zero, suc, ◌+◌, ◌-◌, Bool, true, false, cond, nat_eq, List, [], ◌∷◌, ◌++◌, length, map, take, drop, filter, replicate, Some, None, refl, ap, sym, subst, ◌∙◌, arith, IsTrue, eqb-true}
+use Rattle.std.proofs.Common.{◌≡◌, ℕ, suc, ◌+◌, ◌-◌, Bool, true, false, cond, nat_eq, List, [], ◌∷◌, length, map, replicate, Some, None, refl, ap, sym, subst, ◌∙◌, arith, eqb-true}
 use Rattle.std.proofs.lemmas.List.{length-map, length-replicate}
 use Rattle.std.specs.List.{slice_get}
 use Rattle.std.specs.Option.{option_map_or}
-use Rattle.std.specs.Prelude.{⊤}
 use Rattle.std.specs.declared.option.Option.{Option}
 use Rattle.ref_terms.specs.declared.fault.Fault.{Fault}
 use Rattle.ref_terms.specs.declared.fault.Fault.TheVariants.{Unknown, Arity}
-use Rattle.ref_terms.specs.terms.Term.{Term, At, App, Con}
-use Rattle.ref_terms.specs.unification.Spine.{head_of, args_of}
+use Rattle.ref_terms.specs.unification.Spine.{args_of}
 use Rattle.ref_terms.specs.unification.Unification.{unify}
 use Rattle.ref_terms.specs.search.Fault.{Judged, Good, Bad}
-use Rattle.ref_terms.specs.search.Program.{Program, modes_of, constant_of}
-use Rattle.ref_terms.specs.search.Formula.{GoalKind, Truth, Conjunction, Atom as AtomGoal, goal_kind}
+use Rattle.ref_terms.specs.search.Program.{modes_of}
+use Rattle.ref_terms.specs.search.Formula.{Truth, Conjunction, Atom as AtomGoal, goal_kind}
 use Rattle.ref_terms.specs.search.Branch.{Goal, Branch}
 use Rattle.ref_terms.specs.search.State as reference
 use Rattle.ref_terms.specs.search.State.{Candidate, Alternative, later_clauses, other_side, State, Running, Ended, Over, Move}
 use Rattle.ref_terms.specs.search.Candidates.{candidates, call_fault, checked_arity}
 use Rattle.ref_terms.specs.search.Resolve.{Resolved, resolve}
-use Rattle.ref_terms.specs.search.BranchMove.{with_later, enters, calls}
-use Rattle.ref_terms.specs.search.GoalMove.{kind_move, goal_move}
-use Rattle.ref_terms.specs.search.Next.{retaken, resolve_later, constant_modes, retry as reference_retry, by_goal, is_awake, by_waking, next as reference_next}
+use Rattle.ref_terms.specs.search.BranchMove.{enters, calls}
+use Rattle.ref_terms.specs.search.GoalMove.{goal_move}
 use Rattle.elpi_cli.specs.declared.horn.Atom.{Atom}
 use Rattle.elpi_cli.specs.declared.horn.Span.{Span}
 use Rattle.elpi_cli.specs.declared.horn.Horn.{Horn}
-use Rattle.elpi_cli.specs.declared.machine.Event.TheVariants.{Moved, Answered, Failure, Faulted}
+use Rattle.elpi_cli.specs.declared.machine.Event.TheVariants.{Moved, Faulted}
 use Rattle.elpi_cli.specs.HornSearch as horn_search
 use Rattle.elpi_cli.specs.HornSearch.{Choice, HornState, running, ended, over, HornMove, atoms_of, places_for, first_fit, fault_at, arity_at}
-use Rattle.elpi_cli.specs.HornProgram.{atom_term, span_term, conjunction, program_term, places_of, candidate_at, AllThere, IsProgram, IsGoal, AreGoals, IsPlain, IsBranch, IsCall, AreAlternatives, is_free, IsEvent, IsState, IsMoveOf}
-use Rattle.elpi_cli.proofs.Constants.{constant, args-applied, head-applied}
-use Rattle.elpi_cli.proofs.Calls.{IsResolved, IsResolution, resolved-places}
+use Rattle.elpi_cli.specs.HornProgram.{atom_term, span_term, conjunction, program_term, places_of, candidate_at, AllThere, IsProgram, IsGoal, AreGoals, IsPlain, IsCall, AreAlternatives, is_free, IsMoveOf}
+use Rattle.elpi_cli.proofs.Constants.{constant, args-applied}
+use Rattle.elpi_cli.proofs.Calls.{IsResolution, resolved-places}
 use Rattle.elpi_cli.proofs.Places.{modes_from, listed}
 use Rattle.elpi_cli.proofs.HornMoves.{goes-into}
 use Rattle.elpi_cli.proofs.Spans.{split, atom-goal, passes-at}

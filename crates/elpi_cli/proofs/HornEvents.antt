@@ -1,9 +1,8 @@
 -- What a search over spans writes is what the reference's search writes.
-use Rattle.std.proofs.Common.{◌≡◌, ℕ, zero, suc, ◌+◌, ◌-◌, ◌<◌, Bool, true, false, cond, nat_eq, codes, List, [], ◌∷◌, ◌++◌, map, flat_map, refl, ap, sym, ◌∙◌, arith, ne_eqb}
+use Rattle.std.proofs.Common.{◌≡◌, ℕ, zero, suc, ◌+◌, ◌-◌, ◌<◌, false, nat_eq, List, [], ◌∷◌, refl, arith, ne_eqb}
 use Rattle.std.specs.Fmt.{decimal}
 use Rattle.std.proofs.lemmas.List.{append-nil}
 use Rattle.ref_terms.specs.unification.Unification.{unify}
-use Rattle.ref_terms.specs.search.Fault.{fault_name}
 use Rattle.ref_terms.specs.search.Branch.{Branch}
 use Rattle.ref_terms.specs.search.State as reference
 use Rattle.ref_terms.specs.search.State.{State, Move}
@@ -13,11 +12,10 @@ use Rattle.ref_terms.specs.texts.Answer.{answer_block}
 use Rattle.elpi_cli.specs.declared.horn.Horn.{Horn}
 use Rattle.elpi_cli.specs.declared.machine.Event.{Event}
 use Rattle.elpi_cli.specs.declared.machine.Event.TheVariants.{Moved, Answered, Failure, Faulted}
-use Rattle.elpi_cli.specs.declared.status.Status.TheVariants.{Done}
-use Rattle.elpi_cli.specs.HornSearch.{HornState, running, HornMove, next, atoms_of}
-use Rattle.elpi_cli.specs.HornProgram.{program_term, query_term, IsProgram, IsPlain, IsState, IsEvent, IsMoveOf}
+use Rattle.elpi_cli.specs.HornSearch.{HornState, running, next, atoms_of}
+use Rattle.elpi_cli.specs.HornProgram.{program_term, query_term, IsProgram, IsPlain, IsState, IsEvent}
 use Rattle.elpi_cli.specs.HornOutput.{followed, horn_events, plain_block, ended_after, horn_written}
-use Rattle.elpi_cli.specs.Output.{Output, line, line_only, preceded, after_failure, written, searched}
+use Rattle.elpi_cli.specs.Output.{line, after_failure, written, searched}
 use Rattle.ref_terms.specs.search.Instance.{fresh_for_variable}
 use Rattle.elpi_cli.specs.declared.horn.Span.{Span}
 use Rattle.elpi_cli.specs.Reading.{IsMove}

@@ -1,27 +1,20 @@
 -- Each move of the search over spans is one of the reference.
-use Rattle.std.proofs.Common.{◌≡◌, ℕ, zero, suc, ◌+◌, ◌-◌, Bool, true, false, cond, nat_eq, nat_lt, List, [], ◌∷◌, ◌++◌, length, map, take, drop, filter, replicate, Some, None, refl, ap, sym, subst, ◌∙◌, arith, IsTrue}
+use Rattle.std.proofs.Common.{◌≡◌, ℕ, Bool, true, false, cond, nat_lt, List, [], ◌∷◌, ◌++◌, map, Some, None, refl, ap}
 use Rattle.std.specs.List.{slice_get}
-use Rattle.std.specs.Option.{option_map_or}
-use Rattle.std.specs.Prelude.{option_to_list, ⊤}
-use Rattle.std.specs.declared.option.Option.{Option}
-use Rattle.ref_terms.specs.terms.Term.{Term, At, Con}
-use Rattle.ref_terms.specs.unification.Unification.{unify}
-use Rattle.ref_terms.specs.search.Fault.{Judged, Good, Bad}
-use Rattle.ref_terms.specs.search.Program.{Program, modes_of}
+use Rattle.std.specs.Prelude.{option_to_list}
+use Rattle.ref_terms.specs.terms.Term.{Term}
 use Rattle.ref_terms.specs.search.Branch.{Goal, Branch, bound_goal, bound_assumption, bound_constraint, bound, bound_branch}
 use Rattle.ref_terms.specs.search.State.{Candidate, Alternative, later_clauses, other_side, State, Running, Ended, Over, Move}
-use Rattle.ref_terms.specs.search.Resolve.{Resolved, resolve}
-use Rattle.ref_terms.specs.search.BranchMove.{with_later, enters, calls}
-use Rattle.ref_terms.specs.search.GoalMove.{kind_move, goal_move}
-use Rattle.ref_terms.specs.search.Next.{retaken, resolve_later, retry as reference_retry, by_goal, next as reference_next}
+use Rattle.ref_terms.specs.search.Resolve.{Resolved}
+use Rattle.ref_terms.specs.search.BranchMove.{with_later}
 use Rattle.elpi_cli.specs.declared.horn.Atom.{Atom}
 use Rattle.elpi_cli.specs.declared.horn.Span.{Span}
 use Rattle.elpi_cli.specs.declared.horn.HornClause.{HornClause}
 use Rattle.elpi_cli.specs.declared.horn.Horn.{Horn}
 use Rattle.elpi_cli.specs.HornSearch as horn_search
 use Rattle.elpi_cli.specs.HornSearch.{Choice, HornState, running, ended, over, HornMove, atoms_of, places_for, with_body_at, with_choice, first_fit}
-use Rattle.elpi_cli.specs.HornProgram.{span_term, body_term, program_term, candidate_at, AllThere, IsProgram, IsGoal, AreGoals, IsPlain, IsBranch, IsCall, AreAlternatives, IsEvent, IsState, IsMoveOf}
-use Rattle.elpi_cli.proofs.Calls.{into, IsResolved, IsResolution, resolved-places}
+use Rattle.elpi_cli.specs.HornProgram.{span_term, candidate_at, AllThere, IsGoal, AreGoals, IsPlain, IsBranch, IsCall, AreAlternatives, IsMoveOf}
+use Rattle.elpi_cli.proofs.Calls.{into, IsResolved}
 
 -- a goal stays under no bindings
 bound-goal : (t : Term) (g : Goal) → IsGoal t g → IsGoal t (bound_goal [] g)

@@ -1,25 +1,22 @@
 -- One move of the search over spans is one move of the reference.
-use Rattle.std.proofs.Common.{◌≡◌, ℕ, zero, suc, Bool, true, false, cond, List, [], ◌∷◌, ◌++◌, length, map, filter, replicate, Some, None, refl, ap, sym, subst, ◌∙◌}
-use Rattle.std.specs.List.{slice_get}
+use Rattle.std.proofs.Common.{◌≡◌, ℕ, Bool, false, List, [], ◌∷◌, length, map, filter, replicate, Some, None, refl, ap, sym, subst, ◌∙◌}
 use Rattle.std.specs.Option.{option_map_or}
 use Rattle.std.specs.declared.option.Option.{Option}
-use Rattle.ref_terms.specs.terms.Term.{Term, Con}
+use Rattle.ref_terms.specs.terms.Term.{Term}
 use Rattle.ref_terms.specs.unification.Spine.{head_of}
 use Rattle.ref_terms.specs.unification.Unification.{unify}
 use Rattle.ref_terms.specs.search.Fault.{Judged, Good, Bad}
-use Rattle.ref_terms.specs.search.Program.{modes_of, constant_of}
+use Rattle.ref_terms.specs.search.Program.{constant_of}
 use Rattle.ref_terms.specs.search.Branch.{Goal, Constraint, Branch}
-use Rattle.ref_terms.specs.search.State as reference
 use Rattle.ref_terms.specs.search.State.{Candidate, Alternative, later_clauses, other_side, State, Running, Ended, Over, Move}
 use Rattle.ref_terms.specs.search.Resolve.{Resolved, resolve}
 use Rattle.ref_terms.specs.search.Next.{retaken, resolve_later, constant_modes, retry as reference_retry, by_goal, is_awake, by_waking, next as reference_next}
-use Rattle.elpi_cli.specs.declared.horn.Atom.{Atom}
 use Rattle.elpi_cli.specs.declared.horn.Span.{Span}
 use Rattle.elpi_cli.specs.declared.horn.Horn.{Horn}
 use Rattle.elpi_cli.specs.HornSearch as horn_search
 use Rattle.elpi_cli.specs.HornSearch.{Choice, HornState, running, ended, over, HornMove, atoms_of, first_fit}
-use Rattle.elpi_cli.specs.HornProgram.{atom_term, span_term, program_term, candidate_at, IsProgram, IsGoal, AreGoals, IsPlain, IsBranch, IsCall, AreAlternatives, IsEvent, IsState, IsMoveOf}
-use Rattle.elpi_cli.proofs.Constants.{constant, args-applied, head-applied}
+use Rattle.elpi_cli.specs.HornProgram.{program_term, candidate_at, IsProgram, AreGoals, IsBranch, IsCall, AreAlternatives, IsState, IsMoveOf}
+use Rattle.elpi_cli.proofs.Constants.{constant, head-applied}
 use Rattle.elpi_cli.proofs.Calls.{IsResolution, resolved-places}
 use Rattle.elpi_cli.proofs.HornMoves.{goes-into}
 use Rattle.elpi_cli.proofs.HornCalls.{goal-moves, goal-arguments}

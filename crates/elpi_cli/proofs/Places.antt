@@ -1,17 +1,14 @@
 -- The places of the clauses that a constant heads, in the reference's words.
-use Rattle.std.proofs.Common.{◌≡◌, ℕ, suc, ◌+◌, Bool, true, false, cond, nat_eq, List, [], ◌∷◌, ◌++◌, length, map, replicate, Some, None, refl, ap, sym, subst, ◌∙◌, append_assoc, length-append, arith}
-use Rattle.std.proofs.lemmas.List.{append-nil}
+use Rattle.std.proofs.Common.{◌≡◌, ℕ, suc, Bool, true, false, nat_eq, List, [], ◌∷◌, ◌++◌, length, map, replicate, Some, None, refl, ap, sym, subst, ◌∙◌, append_assoc, length-append, arith}
 use Rattle.std.specs.List.{slice_get}
 use Rattle.std.specs.declared.option.Option.{Option}
-use Rattle.ref_terms.specs.terms.Term.{Term, At, Con}
-use Rattle.ref_terms.specs.search.Program.{Clause, headed_by, from_clauses, is_constant, constant_of}
+use Rattle.ref_terms.specs.search.Program.{headed_by, from_clauses}
 use Rattle.ref_terms.specs.search.State.{Candidate, of_program}
 use Rattle.ref_terms.specs.search.Candidates.{program_candidates}
-use Rattle.ref_terms.specs.unification.Spine.{args_of, head_of}
 use Rattle.elpi_cli.specs.declared.horn.HornClause.{HornClause}
 use Rattle.elpi_cli.specs.declared.horn.Horn.{Horn}
 use Rattle.elpi_cli.specs.HornSearch.{arity_at}
-use Rattle.elpi_cli.specs.HornProgram.{applied, atom_term, clause_term, places_of, candidate_at, AllThere}
+use Rattle.elpi_cli.specs.HornProgram.{atom_term, clause_term, places_of, candidate_at, AllThere}
 use Rattle.elpi_cli.proofs.Constants.{constant, args-applied, head-applied}
 use Rattle.elpi_cli.proofs.Calls.{clause-at}
 use Rattle.std.proofs.lemmas.List.{length-map}

@@ -1,12 +1,10 @@
 -- Looking for a clause from an index on, and what is kept of the later ones.
-use Rattle.std.proofs.Common.{◌≡◌, ℕ, suc, ◌+◌, ◌<◌, List, [], ◌∷◌, length, drop, Some, refl, ap, ◌∙◌, arith, add-one, get_or, true, drop-cons, slice_get}
+use Rattle.std.proofs.Common.{◌≡◌, ℕ, ◌+◌, ◌<◌, List, [], ◌∷◌, length, drop, Some, refl, ◌∙◌, arith, add-one, get_or, true, drop-cons, slice_get}
 use Rattle.std.proofs.lemmas.List.{get_or_default}
 use Rattle.std.proofs.lemmas.Option.{slice_get_read}
 use Rattle.elpi_cli.specs.declared.horn.Span.{Span}
 use Rattle.elpi_cli.specs.declared.horn.Horn.{Horn}
-use Rattle.elpi_cli.specs.declared.machine.Alternative.{Alternative}
 use Rattle.elpi_cli.specs.HornSearch.{Choice, fits, first_fit, with_choice}
-use Rattle.elpi_cli.specs.Reading.{choices_of}
 
 -- the places from an index on begin with the one there
 pub drop-read : (places : List ℕ) (at place : ℕ) → at < length places → place ≡ get_or places at place → drop at places ≡ place ∷ drop (at + 1) places

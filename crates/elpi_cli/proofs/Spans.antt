@@ -1,13 +1,11 @@
 -- Atoms of spans, and the goals that they are.
-use Rattle.std.proofs.Common.{◌≡◌, ℕ, zero, suc, ◌+◌, ◌-◌, ◌≤◌, Bool, true, false, nat_le, List, [], ◌∷◌, ◌++◌, length, take, drop, map, Some, None, refl, ap, sym, subst, ◌∙◌, arith, IsTrue, leb-true, ◌&&◌}
+use Rattle.std.proofs.Common.{◌≡◌, ℕ, zero, suc, ◌-◌, ◌≤◌, Bool, true, false, List, [], ◌∷◌, ◌++◌, length, take, drop, map, Some, None, refl, ap, subst, arith, IsTrue, leb-true, ◌&&◌}
 use Rattle.std.specs.List.{slice_get, list_all}
-use Rattle.ref_terms.specs.terms.Term.{Term, At, Con}
-use Rattle.ref_terms.specs.unification.Spine.{args_of}
-use Rattle.ref_terms.specs.unification.Shape.{shape}
-use Rattle.ref_terms.specs.search.Reserved.{Reserved, words, word_of, Nonvar_word, Distinct_word}
-use Rattle.ref_terms.specs.search.Formula.{GoalKind, Atom as AtomGoal, word_goal, shape_goal, goal_kind}
+use Rattle.ref_terms.specs.terms.Term.{Term}
+use Rattle.ref_terms.specs.search.Reserved.{words, word_of, Nonvar_word, Distinct_word}
+use Rattle.ref_terms.specs.search.Formula.{Atom as AtomGoal, word_goal, goal_kind}
 use Rattle.elpi_cli.specs.declared.horn.Atom.{Atom}
-use Rattle.elpi_cli.specs.HornProgram.{applied, atom_term, is_free}
+use Rattle.elpi_cli.specs.HornProgram.{atom_term, is_free}
 use Rattle.elpi_cli.proofs.Constants.{constant, args-applied, head-applied, shape-constant}
 
 -- the first atom of a span, and the others

@@ -1,5 +1,5 @@
 -- From what a part wrote to what the whole run wrote.
-use Rattle.std.proofs.Common.{◌≡◌, ◌≢◌, ℕ, ◌+◌, List, [], ◌∷◌, ◌++◌, None, Some, IfSome, refl, ap, sym, ◌∙◌, subst, inl, inr, nat_eq, cond, true, false, Bool, ◌⊎◌, IsSome, codes}
+use Rattle.std.proofs.Common.{◌≡◌, ◌≢◌, ℕ, ◌+◌, List, [], ◌∷◌, None, Some, IfSome, refl, ap, sym, ◌∙◌, subst, inl, inr, nat_eq, cond, true, false, Bool, ◌⊎◌, IsSome, codes}
 use Rattle.std.proofs.lemmas.List.{append-nil}
 use Rattle.std.specs.List.{concat}
 use Rattle.std.specs.declared.option.Option.{Option}
@@ -8,7 +8,7 @@ use Rattle.lam_io.specs.Writes.{Appended, IsFront}
 use Rattle.elpi_cli.specs.declared.machine.Event.{Event}
 use Rattle.elpi_cli.specs.declared.machine.Event.TheVariants.{Moved, Answered, Failure, Faulted}
 use Rattle.elpi_cli.specs.declared.status.Status.{Status}
-use Rattle.elpi_cli.specs.declared.status.Status.TheVariants.{Done, NoAnswer, Words, Refused, Fault, Budget, Missing, TooLong, ReadFault, WriteFault, Memory}
+use Rattle.elpi_cli.specs.declared.status.Status.TheVariants.{Done, NoAnswer, Words, Fault, Budget, ReadFault, WriteFault, Memory}
 use Rattle.elpi_cli.specs.Output.{Output, line, line_only, preceded}
 use Rattle.elpi_cli.specs.HornOutput.{horn_events, horn_written, plain_block}
 use Rattle.elpi_cli.specs.Written.{IsWritten, IsWholePieces}

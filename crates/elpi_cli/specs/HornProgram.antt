@@ -1,5 +1,5 @@
 -- The programs, goals and states of the reference for which those of the search over spans stand.
-use Rattle.std.specs.Prelude.{◌≡◌, ℕ, zero, suc, ◌-◌, Bool, true, false, cond, nat_eq, nat_lt, nat_le, List, [], ◌∷◌, length, map, replicate, take, drop, IsTrue, Some, None, ⊤}
+use Rattle.std.specs.Prelude.{◌≡◌, ℕ, suc, Bool, false, cond, nat_eq, nat_lt, nat_le, List, [], ◌∷◌, length, map, replicate, IsTrue, Some, None, ⊤}
 use Rattle.std.specs.List.{list_all, slice_get}
 use Rattle.std.specs.Option.{option_map_or}
 use Rattle.std.specs.declared.option.Option.{Option}

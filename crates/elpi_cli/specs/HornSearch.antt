@@ -6,7 +6,6 @@ use Rattle.std.specs.declared.option.Option.{Option}
 use Rattle.std.specs.declared.option.Option.TheVariants.{None, Some}
 use Rattle.elpi_cli.specs.declared.horn.Atom.{Atom}
 use Rattle.elpi_cli.specs.declared.horn.Span.{Span}
-use Rattle.elpi_cli.specs.declared.horn.HornClause.{HornClause}
 use Rattle.elpi_cli.specs.declared.horn.Horn.{Horn}
 use Rattle.elpi_cli.specs.declared.machine.Event.{Event}
 use Rattle.elpi_cli.specs.declared.machine.Event.TheVariants.{Moved, Answered, Failure, Faulted}

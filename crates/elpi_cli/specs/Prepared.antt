@@ -1,5 +1,5 @@
 -- What reading the words and the files prepares, against the output of the run.
-use Rattle.std.specs.Prelude.{◌≡◌, ℕ, List, [], ◌∷◌, ⊤, None, Some, IsSome}
+use Rattle.std.specs.Prelude.{◌≡◌, ℕ, List, ⊤, None, Some, IsSome}
 use Rattle.std.specs.declared.option.Option.{Option}
 use Rattle.std.specs.String.{string_bytes}
 use Rattle.lam_io.specs.declared.byte_text.FileEntry.{FileEntry}

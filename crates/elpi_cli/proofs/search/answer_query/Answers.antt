@@ -1,4 +1,4 @@
-use Rattle.std.proofs.Common.{◌-◌, ◌+◌, ◌<◌, ◌≡◌, arith, sym}
+use Rattle.std.proofs.Common.{◌-◌, ◌+◌, ◌<◌, ◌≡◌, arith}
 use Rattle.elpi_cli.specs.HornOutput.{horn_events}
 use Rattle.elpi_cli.specs.Reading.{reading}
 use Rattle.elpi_cli.proofs.Progress.{finishes, goes_on}
