@@ -7,7 +7,7 @@ use Rattle.ref_terms.specs.search.Branch.{Branch}
 use Rattle.ref_terms.specs.search.State.{Event, Moved, Printed, Answered, Failure, Faulted, State}
 use Rattle.ref_terms.specs.search.Next.{next}
 use Rattle.ref_terms.specs.search.Events.{following, events}
-use Rattle.ref_terms.specs.search.Alike.{RenamedBranch, RenamedEvent, step, back, through, AlikeState, AlikeEvent, AlikeMove, Shown, answer, shown}
+use Rattle.ref_terms.specs.search.Alike.{RenamedBranch, RenamedEvent, unchanged, step, back, through, AlikeState, AlikeEvent, AlikeMove, Shown, answer, shown}
 use Rattle.ref_terms.specs.texts.Answer.{answer_block, path_line}
 use Rattle.ref_terms.proofs.search.Fair.{IsFair}
 use Rattle.ref_terms.proofs.search.AnswerVars.{block-vars}
@@ -15,6 +15,7 @@ use Rattle.ref_terms.proofs.search.NextVars.{next-renamed}
 
 module _ (unify : Unification) (fair : IsFair unify) (program : Program) where
   pub next-alike : (s t : State) → AlikeState s t → AlikeMove (next unify program s) (next unify program t)
+  next-alike s t unchanged = (unchanged, unchanged)
   next-alike s t (step w) = let m = next-renamed unify fair program s t w in (step m.0, step m.1)
   next-alike s t (back w) = let m = next-alike t s w in (back m.0, back m.1)
   next-alike s t (through w v) = let m = next-alike s _ w in let n = next-alike _ t v in (through m.0 n.0, through m.1 n.1)
@@ -54,6 +55,7 @@ module _ (table : List (List ℕ)) (variables : List QueryVar) where
   renamed-shown (Faulted d) (Faulted g) w = ap (shown table variables) w
 
   pub alike-shown : (e f : Event) → AlikeEvent e f → shown table variables e ≡ shown table variables f
+  alike-shown e f unchanged = refl
   alike-shown e f (step w) = renamed-shown e f w
   alike-shown e f (back w) = sym (alike-shown f e w)
   alike-shown e f (through w v) = alike-shown e _ w ∙ alike-shown _ f v

@@ -11,7 +11,7 @@ use Rattle.ref_terms.specs.search.BranchMove.{cut_to}
 use Rattle.ref_terms.specs.search.Next.{constant_modes, next}
 use Rattle.ref_terms.specs.search.Events.{events}
 use Rattle.ref_terms.specs.search.Renamed.{goal_vars, branch_vars, candidate_vars, alternative_vars, branch_of}
-use Rattle.ref_terms.specs.search.Alike.{IsRenamingAt, RenamedBranch, RenamedAlternative, RenamedState, Each, step, back, through, AlikeState, AlikeEvent, shown}
+use Rattle.ref_terms.specs.search.Alike.{IsRenamingAt, RenamedBranch, RenamedAlternative, RenamedState, Each, unchanged, step, back, through, AlikeState, AlikeEvent, shown}
 use Rattle.ref_terms.specs.search.Strip.{recounted, with_barriers, is_clash, clashes_at, is_open, is_kept, kept_of, stripped, strip_all, strip, IsCounted, AlikeOnceStripped}
 use Rattle.ref_terms.proofs.search.ListVars.{map-square, filter-vars, any-vars}
 use Rattle.ref_terms.proofs.search.TermVars.{constant-vars}
@@ -108,6 +108,7 @@ module _ (unify : Unification) (fair : IsFair unify) (program : Program) where
   strip-renamed (Over e) (Ended c ys) w = elim w [ ]
 
   pub strip-alike : (s t : State) → AlikeState s t → AlikeOnceStripped unify program s t
+  strip-alike s t unchanged = unchanged
   strip-alike s t (step w) = step (strip-renamed s t w)
   strip-alike s t (back w) = back (strip-alike t s w)
   strip-alike s t (through w v) = through (strip-alike s _ w) (strip-alike _ t v)

@@ -61,6 +61,7 @@ RenamedMove m n = RenamedEvent m.event n.event × RenamedState m.state n.state
 
 -- both are related by any number of such steps, in either direction: the least equivalence with this relation
 pub data Joined {A : Type 0} (R : A → A → Type 0) : A → A → Type 0 where
+  unchanged : {a : A} → Joined R a a
   step : {a b : A} → R a b → Joined R a b
   back : {a b : A} → Joined R a b → Joined R b a
   through : {a b c : A} → Joined R a b → Joined R b c → Joined R a c
