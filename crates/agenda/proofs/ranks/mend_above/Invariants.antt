@@ -1,0 +1,12 @@
+use Rattle.std.proofs.Common.{◌≡◌, ◌≢◌, ℕ, ◌+◌, ◌<◌, ◌/◌, drop}
+use Rattle.agenda.specs.Ranks.{IsInner}
+use Rattle.agenda.proofs.ranks.mend_above.Given as goal
+
+abbrev pub invariant-loop-k : goal.invariant-loop-k
+invariant-loop-k l =
+    (0 < l.k) × (l.k < l.places + l.places)
+    × ((k : ℕ) → 0 < k → k < l.places → k ≢ l.k / 2 → IsInner l.nodes k)
+    × (drop l.places l.nodes ≡ drop l.places l.fn.nodes)
+
+abbrev pub decreases-loop-k : goal.decreases-loop-k
+decreases-loop-k l = l.k

@@ -1,0 +1,4 @@
+pub mod Ranks
+pub mod Pairs
+pub mod Log
+pub mod Kept
