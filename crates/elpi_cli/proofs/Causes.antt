@@ -21,7 +21,7 @@ use Rattle.elpi_cli.specs.Output.{Output, line, written, searched}
 use Rattle.elpi_cli.specs.Resolve.{program_of, query_of}
 use Rattle.elpi_cli.specs.Texts.{files_read, items_of, items_read, goal_of}
 use Rattle.elpi_cli.specs.Top.{output, command_output, files_output, texts_output, query_output, word_at, file_names, files_for, known_files, IsReached, IsStatusOf, IsRunOf}
-use Rattle.elpi_cli.specs.Causes.{EndsWith, IsFailure, ComesBy, ComesExactlyBy, IsComplete, IsBadWord, IsMissing, IsTooLong, IsReady, IsUnbuiltFile, IsUnbuiltQuery, IsRefused, Searches, Shows, IsFault, IsOutOfSteps, IsNoAnswer, IsDone}
+use Rattle.elpi_cli.specs.Causes.{EndsWith, IsFailure, ComesBy, ComesExactlyBy, IsComplete, IsBadWord, IsMissing, IsTooLong, IsReady, IsRefusedFile, IsRefusedQuery, IsRefused, Searches, Shows, IsFault, IsOutOfSteps, IsNoAnswer, IsDone}
 use Rattle.elpi_cli.proofs.CausesSearch.{SearchCause, search-cause, search-status}
 use Rattle.elpi_cli.proofs.CausesTexts.{IsFileRefusal, within-files, missing-file, long-file, refused-file, unbuilt-file, built-items, refused-text, all-built, missing_line, too_long_line}
 
@@ -50,11 +50,11 @@ of-search words told limit shown shows Budget last h = (limit, shown, shows, h)
 of-search words told limit shown shows status last h = absurd h
 
 -- the cause, where all files are built
-by-goal : (words : List (List ℕ)) (told : List FileEntry) (steps answers : ℕ) (query : List ℕ) (files : List FileEntry) (items : List Item) (goal : Option AstGoal) → IsReady words told steps answers query files → items_read 0 files ≡ Ok items → goal_of query ≡ goal
+by-goal : (words : List (List ℕ)) (told : List FileEntry) (steps answers : ℕ) (query : List ℕ) (files : List FileEntry) (items : List Item) (goal : Result AstGoal (List ℕ)) → IsReady words told steps answers query files → items_read 0 files ≡ Ok items → goal_of query ≡ goal
     → HasCauseIn words told (query_output steps answers items goal)
-by-goal words told steps answers query files items None ready read is =
-    (codes "refused: " ++ (codes "query" ++ line (codes ": not yet")), (steps, answers, query, files, codes "query", ready, inr (all-built 0 files items read, is, refl), refl), ([], refl))
-by-goal words told steps answers query files items (Some goal) ready read is =
+by-goal words told steps answers query files items (Err last) ready read is =
+    (last, (steps, answers, query, files, ready, inr (all-built 0 files items read, is)), ([], refl))
+by-goal words told steps answers query files items (Ok goal) ready read is =
     let p = program_of items goal in
     let q = query_of items goal in
     let shown = events unify p steps (first_state q) in
@@ -67,9 +67,8 @@ by-items : (words : List (List ℕ)) (told : List FileEntry) (steps answers : �
     → HasCauseIn words told (texts_output steps answers query r)
 by-items words told steps answers query files (Err refusal) ready is =
     let h = refused-text 0 files refusal is in
-    let unbuilt : IsUnbuiltFile files h.1.name = (h.0, h.1, h.2, h.3, h.4, subst (λ (n : ℕ). items_of n h.1.bytes ≡ None) (zero-add (length h.0)) h.5, refl) in
-    subst (HasCauseIn words told) (sym h.6)
-    (codes "refused: " ++ (h.1.name ++ line (codes ": not yet")), (steps, answers, query, files, h.1.name, ready, inl unbuilt, refl), ([], refl))
+    let unbuilt : IsRefusedFile files h.3 = (h.0, h.1, h.2, h.4, h.5, subst (λ (n : ℕ). items_of h.1.name n h.1.bytes ≡ Err h.3) (zero-add (length h.0)) h.6) in
+    subst (HasCauseIn words told) (sym h.7) (h.3, (steps, answers, query, files, ready, inl unbuilt), ([], refl))
 by-items words told steps answers query files (Ok items) ready is = by-goal words told steps answers query files items (goal_of query) ready is refl
 
 -- why a file is refused, for the command that names it
@@ -121,14 +120,14 @@ ready-output words told steps answers query files ready =
     ∙ ap (λ (text : List ℕ). texts_output steps answers text (items_read 0 files)) (sym ready.query_is)
 
 -- a text that isn't built is refused
-unbuilt-output : (words : List (List ℕ)) (told : List FileEntry) (steps answers : ℕ) (query : List ℕ) (files : List FileEntry) (name : List ℕ) → IsUnbuiltFile files name ⊎ IsUnbuiltQuery files query name → (texts_output steps answers query (items_read 0 files)).status ≡ Refused
-unbuilt-output words told steps answers query files name (inl h) =
-    let none = subst (λ (n : ℕ). items_of n h.1.bytes ≡ None) (sym (zero-add (length h.0))) h.5 in
-    ap (λ (r : Result (List Item) Output). (texts_output steps answers query r).status) (ap (items_read 0) h.3 ∙ unbuilt-file 0 h.0 h.1 h.2 h.4 none)
-unbuilt-output words told steps answers query files name (inr h) =
+unbuilt-output : (words : List (List ℕ)) (told : List FileEntry) (steps answers : ℕ) (query : List ℕ) (files : List FileEntry) (last : List ℕ) → IsRefusedFile files last ⊎ IsRefusedQuery files query last → (texts_output steps answers query (items_read 0 files)).status ≡ Refused
+unbuilt-output words told steps answers query files last (inl h) =
+    let none = subst (λ (n : ℕ). items_of h.1.name n h.1.bytes ≡ Err last) (sym (zero-add (length h.0))) h.5 in
+    ap (λ (r : Result (List Item) Output). (texts_output steps answers query r).status) (ap (items_read 0) h.3 ∙ unbuilt-file 0 h.0 h.1 h.2 last h.4 none)
+unbuilt-output words told steps answers query files last (inr h) =
     let read = built-items 0 files h.0 in
     ap (λ (r : Result (List Item) Output). (texts_output steps answers query r).status) read.1
-    ∙ ap (λ (goal : Option AstGoal). (query_output steps answers read.0 goal).status) h.1
+    ∙ ap (λ (goal : Result AstGoal (List ℕ)). (query_output steps answers read.0 goal).status) h.1
 
 -- the output of a search that is asked for
 search-output : (words : List (List ℕ)) (told : List FileEntry) (program : Program) (query : Query) (steps answers : ℕ) → Searches words told program query steps answers → output words told ≡ searched program query steps answers
@@ -152,7 +151,7 @@ run-status words told Done last h = shown-status words told h.0 h.1 last Done h.
 run-status words told NoAnswer last h = shown-status words told h.0 h.1 last NoAnswer h.2 h.3
 run-status words told Words last h = ap (λ (c : Result Command ℕ). (command_output words told c).status) h.1
 run-status words told Refused last h =
-    ap (λ (o : Output). o.status) (ready-output words told h.0 h.1 h.2 h.3 h.5) ∙ unbuilt-output words told h.0 h.1 h.2 h.3 h.4 h.6
+    ap (λ (o : Output). o.status) (ready-output words told h.0 h.1 h.2 h.3 h.4) ∙ unbuilt-output words told h.0 h.1 h.2 h.3 last h.5
 run-status words told Fault last h = shown-status words told h.0 h.1 last Fault h.2 h.3
 run-status words told Budget last h = shown-status words told h.0 h.1 last Budget h.2 h.3
 run-status words told Missing last h =

@@ -1,13 +1,13 @@
 -- What reading the files and their texts comes to, and why.
-use Rattle.std.proofs.Common.{◌≡◌, ℕ, ◌+◌, ◌<◌, ◌≤◌, Bool, true, false, nat_lt, codes, List, [], ◌∷◌, ◌++◌, length, ◌⊎◌, inl, inr, refl, ap, sym, subst, ◌∙◌, arith, None, Some, Ok, Err, IsSome, IsSomeAnd, add-zero, lt-ltb, ltb-true, ltb-false, le-ltb}
+use Rattle.std.proofs.Common.{◌≡◌, ℕ, ◌+◌, ◌<◌, ◌≤◌, Bool, true, false, nat_lt, codes, List, [], ◌∷◌, ◌++◌, length, ◌⊎◌, inl, inr, refl, ap, sym, subst, ◌∙◌, arith, None, Some, Ok, Err, IsOk, IsSomeAnd, add-zero, lt-ltb, ltb-true, ltb-false, le-ltb}
 use Rattle.std.specs.declared.option.Option.{Option}
 use Rattle.std.specs.declared.result.Result.{Result}
 use Rattle.lam_io.specs.declared.byte_text.FileEntry.{FileEntry}
 use Rattle.lam_io.specs.Reads.{bytes_of}
 use Rattle.lp_parser.specs.declared.ast.Item.{Item}
-use Rattle.elpi_cli.specs.declared.status.Status.TheVariants.{Missing, TooLong}
+use Rattle.elpi_cli.specs.declared.status.Status.TheVariants.{Refused, Missing, TooLong}
 use Rattle.elpi_cli.specs.Output.{Output, line, line_only}
-use Rattle.elpi_cli.specs.Texts.{file_limit, before_files, with_file, files_read, not_yet, items_of, with_items, items_read}
+use Rattle.elpi_cli.specs.Texts.{file_limit, before_files, with_file, files_read, items_of, with_items, items_read}
 use Rattle.elpi_cli.specs.Top.{AreWithin, IsReached}
 use Rattle.elpi_cli.specs.Causes.{AreBuilt}
 
@@ -87,74 +87,74 @@ refused-file told [] refusal is = absurd (cc)
 refused-file told (name ∷ names) refusal is = by-bytes told name names refusal (bytes_of told name) refl (refused-file told names) is
 
 -- a file that is built leaves the refusal of a later one
-built-file : (name : List ℕ) (found : Option (List Item)) (later : Result (List Item) Output) (refusal : Output) → IsSome found → later ≡ Err refusal → with_items name found later ≡ Err refusal
-built-file name None later refusal some is = absurd (let no : false ≡ true = some in cc)
-built-file name (Some items) later refusal some is = ap (with_items name (Some items)) is
+built-file : (found : Result (List Item) (List ℕ)) (later : Result (List Item) Output) (refusal : Output) → IsOk found → later ≡ Err refusal → with_items found later ≡ Err refusal
+built-file (Err last) later refusal ok is = absurd (let no : false ≡ true = ok in cc)
+built-file (Ok items) later refusal ok is = ap (with_items (Ok items)) is
 
 -- one more file before the others
 add-file : {A : Type 0} (file : ℕ) (f : A) (fs : List A) → file + 1 + length fs ≡ file + length (f ∷ fs)
 add-file file f fs = omega arith
 
 -- files that are built leave the refusal of the next
-pub unbuilt-file : (file : ℕ) (before : List FileEntry) (f : FileEntry) (after : List FileEntry) → AreBuilt file before → items_of (file + length before) f.bytes ≡ None → items_read file (before ++ f ∷ after) ≡ Err (not_yet f.name)
-unbuilt-file file [] f after built is =
-    let none : items_of file f.bytes ≡ None = subst (λ (n : ℕ). items_of n f.bytes ≡ None) (add-zero file) is in
-    ap (λ (o : Option (List Item)). with_items f.name o (items_read (file + 1) after)) none
-unbuilt-file file (g ∷ before) f after built is =
-    built-file g.name (items_of file g.bytes) (items_read (file + 1) (before ++ f ∷ after)) (not_yet f.name) built.0
-    (unbuilt-file (file + 1) before f after built.1 (subst (λ (n : ℕ). items_of n f.bytes ≡ None) (sym (add-file file g before)) is))
+pub unbuilt-file : (file : ℕ) (before : List FileEntry) (f : FileEntry) (after : List FileEntry) (last : List ℕ) → AreBuilt file before → items_of f.name (file + length before) f.bytes ≡ Err last → items_read file (before ++ f ∷ after) ≡ Err (line_only last Refused)
+unbuilt-file file [] f after last built is =
+    let none : items_of f.name file f.bytes ≡ Err last = subst (λ (n : ℕ). items_of f.name n f.bytes ≡ Err last) (add-zero file) is in
+    ap (λ (r : Result (List Item) (List ℕ)). with_items r (items_read (file + 1) after)) none
+unbuilt-file file (g ∷ before) f after last built is =
+    built-file (items_of g.name file g.bytes) (items_read (file + 1) (before ++ f ∷ after)) (line_only last Refused) built.0
+    (unbuilt-file (file + 1) before f after last built.1 (subst (λ (n : ℕ). items_of f.name n f.bytes ≡ Err last) (sym (add-file file g before)) is))
 
 -- a file that is built, before others that are
-built-all : (name : List ℕ) (found : Option (List Item)) (later : Result (List Item) Output) → IsSome found → (items : List Item) × (later ≡ Ok items) → (items : List Item) × (with_items name found later ≡ Ok items)
-built-all name None later some h = absurd (let no : false ≡ true = some in cc)
-built-all name (Some items) later some h = (items ++ h.0, ap (with_items name (Some items)) h.1)
+built-all : (found : Result (List Item) (List ℕ)) (later : Result (List Item) Output) → IsOk found → (items : List Item) × (later ≡ Ok items) → (items : List Item) × (with_items found later ≡ Ok items)
+built-all (Err last) later ok h = absurd (let no : false ≡ true = ok in cc)
+built-all (Ok items) later ok h = (items ++ h.0, ap (with_items (Ok items)) h.1)
 
 -- where all files are built, their items are read
 pub built-items : (file : ℕ) (files : List FileEntry) → AreBuilt file files → (items : List Item) × (items_read file files ≡ Ok items)
 built-items file [] built = ([], refl)
-built-items file (f ∷ fs) built = built-all f.name (items_of file f.bytes) (items_read (file + 1) fs) built.0 (built-items (file + 1) fs built.1)
+built-items file (f ∷ fs) built = built-all (items_of f.name file f.bytes) (items_read (file + 1) fs) built.0 (built-items (file + 1) fs built.1)
 
--- a file isn't built, those before it are, and it is refused
+-- a file is refused with a line, and those before it are built
 abbrev pub HasTextRefusal : (file : ℕ) → List FileEntry → Output → Type 0
 HasTextRefusal file files refusal =
-    (before : List FileEntry) × (f : FileEntry) × (after : List FileEntry) × (files ≡ before ++ f ∷ after)
-    × AreBuilt file before × (items_of (file + length before) f.bytes ≡ None) × (refusal ≡ not_yet f.name)
+    (before : List FileEntry) × (f : FileEntry) × (after : List FileEntry) × (last : List ℕ) × (files ≡ before ++ f ∷ after)
+    × AreBuilt file before × (items_of f.name (file + length before) f.bytes ≡ Err last) × (refusal ≡ line_only last Refused)
 
 -- a later text is refused behind one that is built
-later-text : (file : ℕ) (f : FileEntry) (fs : List FileEntry) (refusal : Output) → IsSome (items_of file f.bytes) → HasTextRefusal (file + 1) fs refusal → HasTextRefusal file (f ∷ fs) refusal
-later-text file f fs refusal some h =
-    (f ∷ h.0, h.1, h.2, ap (λ (gs : List FileEntry). f ∷ gs) h.3, (some, h.4), subst (λ (n : ℕ). items_of n h.1.bytes ≡ None) (add-file file f h.0) h.5, h.6)
+later-text : (file : ℕ) (f : FileEntry) (fs : List FileEntry) (refusal : Output) → IsOk (items_of f.name file f.bytes) → HasTextRefusal (file + 1) fs refusal → HasTextRefusal file (f ∷ fs) refusal
+later-text file f fs refusal ok h =
+    (f ∷ h.0, h.1, h.2, h.3, ap (λ (gs : List FileEntry). f ∷ gs) h.4, (ok, h.5), subst (λ (n : ℕ). items_of h.1.name n h.1.bytes ≡ Err h.3) (add-file file f h.0) h.6, h.7)
 
 -- the refusal of a text behind one that is built
-by-later : (file : ℕ) (f : FileEntry) (fs : List FileEntry) (refusal : Output) (items : List Item) (later : Result (List Item) Output) → items_read (file + 1) fs ≡ later → items_of file f.bytes ≡ Some items
-    → ((r : Output) → items_read (file + 1) fs ≡ Err r → HasTextRefusal (file + 1) fs r) → with_items f.name (Some items) later ≡ Err refusal → HasTextRefusal file (f ∷ fs) refusal
+by-later : (file : ℕ) (f : FileEntry) (fs : List FileEntry) (refusal : Output) (items : List Item) (later : Result (List Item) Output) → items_read (file + 1) fs ≡ later → items_of f.name file f.bytes ≡ Ok items
+    → ((r : Output) → items_read (file + 1) fs ≡ Err r → HasTextRefusal (file + 1) fs r) → with_items (Ok items) later ≡ Err refusal → HasTextRefusal file (f ∷ fs) refusal
 by-later file f fs refusal items (Ok more) is found go refused = absurd (cc)
 by-later file f fs refusal items (Err other) is found go refused =
     let same : other ≡ refusal = cc in
-    later-text file f fs refusal (subst IsSome (sym found) refl) (go refusal (is ∙ ap (λ (o : Output). Err o) same))
+    later-text file f fs refusal (subst IsOk (sym found) refl) (go refusal (is ∙ ap (λ (o : Output). Err o) same))
 
 -- the refusal of a text, or of a later one
-by-items : (file : ℕ) (f : FileEntry) (fs : List FileEntry) (refusal : Output) (found : Option (List Item)) → items_of file f.bytes ≡ found
-    → ((r : Output) → items_read (file + 1) fs ≡ Err r → HasTextRefusal (file + 1) fs r) → with_items f.name found (items_read (file + 1) fs) ≡ Err refusal → HasTextRefusal file (f ∷ fs) refusal
-by-items file f fs refusal None is go refused =
-    let why : not_yet f.name ≡ refusal = cc in
-    ([], f, fs, refl, tt, subst (λ (n : ℕ). items_of n f.bytes ≡ None) (sym (add-zero file)) is, sym why)
-by-items file f fs refusal (Some items) is go refused = by-later file f fs refusal items (items_read (file + 1) fs) refl is go refused
+by-items : (file : ℕ) (f : FileEntry) (fs : List FileEntry) (refusal : Output) (found : Result (List Item) (List ℕ)) → items_of f.name file f.bytes ≡ found
+    → ((r : Output) → items_read (file + 1) fs ≡ Err r → HasTextRefusal (file + 1) fs r) → with_items found (items_read (file + 1) fs) ≡ Err refusal → HasTextRefusal file (f ∷ fs) refusal
+by-items file f fs refusal (Err last) is go refused =
+    let why : line_only last Refused ≡ refusal = cc in
+    ([], f, fs, last, refl, tt, subst (λ (n : ℕ). items_of f.name n f.bytes ≡ Err last) (sym (add-zero file)) is, sym why)
+by-items file f fs refusal (Ok items) is go refused = by-later file f fs refusal items (items_read (file + 1) fs) refl is go refused
 
 -- the first text that isn't built is refused
 pub refused-text : (file : ℕ) (files : List FileEntry) (refusal : Output) → items_read file files ≡ Err refusal → HasTextRefusal file files refusal
 refused-text file [] refusal is = absurd (cc)
-refused-text file (f ∷ fs) refusal is = by-items file f fs refusal (items_of file f.bytes) refl (refused-text (file + 1) fs) is
+refused-text file (f ∷ fs) refusal is = by-items file f fs refusal (items_of f.name file f.bytes) refl (refused-text (file + 1) fs) is
 
 -- where items are read, the first text is built, and the later ones are read
-all-of-both : (name : List ℕ) (found : Option (List Item)) (later : Result (List Item) Output) (items : List Item) → with_items name found later ≡ Ok items → IsSome found × ((items : List Item) × (later ≡ Ok items))
-all-of-both name None later items is = absurd (cc)
-all-of-both name (Some first) (Ok more) items is = (refl, (more, refl))
-all-of-both name (Some first) (Err other) items is = absurd (cc)
+all-of-both : (found : Result (List Item) (List ℕ)) (later : Result (List Item) Output) (items : List Item) → with_items found later ≡ Ok items → IsOk found × ((items : List Item) × (later ≡ Ok items))
+all-of-both (Err last) later items is = absurd (cc)
+all-of-both (Ok first) (Ok more) items is = (refl, (more, refl))
+all-of-both (Ok first) (Err other) items is = absurd (cc)
 
 -- where items are read, all files are built
 pub all-built : (file : ℕ) (files : List FileEntry) (items : List Item) → items_read file files ≡ Ok items → AreBuilt file files
 all-built file [] items is = tt
 all-built file (f ∷ fs) items is =
-    let both = all-of-both f.name (items_of file f.bytes) (items_read (file + 1) fs) items is in
+    let both = all-of-both (items_of f.name file f.bytes) (items_read (file + 1) fs) items is in
     (both.0, all-built (file + 1) fs both.1.0 both.1.1)

@@ -8,6 +8,7 @@ pub mod HornCalls
 pub mod HornNext
 pub mod HornEvents
 pub mod Progress
+pub mod Lines
 pub mod Begins
 pub mod Whole
 pub mod SymbolPlaces

@@ -1,5 +1,5 @@
 -- What each status of a run comes of, and the last line that says so.
-use Rattle.std.specs.Prelude.{◌≡◌, ℕ, suc, ◌+◌, ◌<◌, List, [], ◌∷◌, ◌++◌, ◌⊎◌, ⊤, map, length, None, Some, Ok, Err, codes, IsSome, IsSomeAnd}
+use Rattle.std.specs.Prelude.{◌≡◌, ℕ, suc, ◌+◌, ◌<◌, List, [], ◌∷◌, ◌++◌, ◌⊎◌, ⊤, map, length, None, Ok, Err, codes, IsSomeAnd, IsOk}
 use Rattle.std.specs.Fmt.{decimal}
 use Rattle.std.specs.List.{concat}
 use Rattle.std.specs.declared.option.Option.{Option}
@@ -77,23 +77,23 @@ pub record IsReady (words : List (List ℕ)) (told : List FileEntry) (steps answ
 -- the texts of these files are built, where the first has this number
 abbrev pub AreBuilt : (file : ℕ) → List FileEntry → Type 0
 AreBuilt file [] = ⊤
-AreBuilt file (f ∷ fs) = IsSome (items_of file f.bytes) × AreBuilt (file + 1) fs
+AreBuilt file (f ∷ fs) = IsOk (items_of f.name file f.bytes) × AreBuilt (file + 1) fs
 
--- a file of this name isn't built, and those before it are
-abbrev pub IsUnbuiltFile : List FileEntry → (name : List ℕ) → Type 0
-IsUnbuiltFile files name =
+-- a file's text is refused with this line, and those before it are built
+abbrev pub IsRefusedFile : List FileEntry → (last : List ℕ) → Type 0
+IsRefusedFile files last =
     (before : List FileEntry) × (f : FileEntry) × (after : List FileEntry) × (files ≡ before ++ f ∷ after)
-    × AreBuilt 0 before × (items_of (length before) f.bytes ≡ None) × (name ≡ f.name)
+    × AreBuilt 0 before × (items_of f.name (length before) f.bytes ≡ Err last)
 
--- the query isn't built, and all files are
-abbrev pub IsUnbuiltQuery : List FileEntry → (query name : List ℕ) → Type 0
-IsUnbuiltQuery files query name = AreBuilt 0 files × (goal_of query ≡ None) × (name ≡ codes "query")
+-- the query's text is refused with this line, and all files are built
+abbrev pub IsRefusedQuery : List FileEntry → (query last : List ℕ) → Type 0
+IsRefusedQuery files query last = AreBuilt 0 files × (goal_of query ≡ Err last)
 
--- all files are read, and this is the first text that isn't built
+-- all files are read, and the first text that is refused has this line
 abbrev pub IsRefused : List (List ℕ) → List FileEntry → (last : List ℕ) → Type 0
 IsRefused words told last =
-    (steps : ℕ) × (answers : ℕ) × (query : List ℕ) × (files : List FileEntry) × (name : List ℕ) × IsReady words told steps answers query files
-    × (IsUnbuiltFile files name ⊎ IsUnbuiltQuery files query name) × (last ≡ codes "refused: " ++ (name ++ line (codes ": not yet")))
+    (steps : ℕ) × (answers : ℕ) × (query : List ℕ) × (files : List FileEntry) × IsReady words told steps answers query files
+    × (IsRefusedFile files last ⊎ IsRefusedQuery files query last)
 
 -- the words and the files ask for the search of this query over this program, with at most so many steps and answers
 pub record Searches (words : List (List ℕ)) (told : List FileEntry) (program : Program) (query : Query) (steps answers : ℕ) : Type 0 where
@@ -103,7 +103,7 @@ pub record Searches (words : List (List ℕ)) (told : List FileEntry) (program :
   pub goal : AstGoal
   pub ready : IsReady words told steps answers text files
   pub items_are : items_read 0 files ≡ Ok items
-  pub goal_is : goal_of text ≡ Some goal
+  pub goal_is : goal_of text ≡ Ok goal
   pub program_is : program ≡ program_of items goal
   pub query_is : query ≡ query_of items goal
 

@@ -7,6 +7,7 @@ pub mod Words
 pub mod Written
 pub mod Symbols
 pub mod Resolve
+pub mod Positions
 pub mod Texts
 pub mod Top
 pub mod Causes

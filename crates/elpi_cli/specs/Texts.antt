@@ -1,16 +1,21 @@
 -- What is read of the files and of the query.
 use Rattle.std.specs.Prelude.{ℕ, ◌+◌, Bool, List, [], ◌∷◌, ◌++◌, length, None, Some, Ok, Err, codes, nat_lt, if◌then◌else◌}
-use Rattle.std.specs.Option.{option_map, option_and_then}
+use Rattle.std.specs.Fmt.{decimal}
+use Rattle.std.specs.Option.{option_map}
 use Rattle.std.specs.declared.option.Option.{Option}
 use Rattle.std.specs.declared.result.Result.{Result}
 use Rattle.lam_io.specs.declared.byte_text.FileEntry.{FileEntry}
 use Rattle.lam_io.specs.Reads.{bytes_of}
+use Rattle.lp_lexer.specs.declared.error.LexError.{LexError}
+use Rattle.lp_lexer.specs.declared.error.LexError.TheVariants.{NotUtf8, BadChar, OpenString, OpenComment, LongName, WideNumber, Memory}
+use Rattle.lp_lexer.specs.declared.token.Token.{Token}
 use Rattle.lp_lexer.specs.Lexing.{tokens_of}
 use Rattle.lp_parser.specs.declared.ast.AstGoal.{AstGoal}
 use Rattle.lp_parser.specs.declared.ast.Item.{Item}
 use Rattle.lp_parser.specs.Reading as parser
 use Rattle.elpi_cli.specs.declared.status.Status.TheVariants.{Refused, Missing, TooLong}
 use Rattle.elpi_cli.specs.Output.{Output, line, line_only}
+use Rattle.elpi_cli.specs.Positions.{line_at, column_at}
 use Rattle.elpi_cli.specs.Resolve.{are_built, is_horn_query}
 
 -- how many bytes a file may have
@@ -34,38 +39,69 @@ abbrev pub files_read : List FileEntry → List (List ℕ) → Result (List File
 files_read told [] = Ok []
 files_read told (name ∷ names) = with_file name (bytes_of told name) (files_read told names)
 
--- a text whose form isn't built
-abbrev pub not_yet : List ℕ → Output
-not_yet name = line_only (codes "refused: " ++ (name ++ line (codes ": not yet"))) Refused
+-- the line of a text whose form isn't built
+abbrev pub not_yet_line : List ℕ → List ℕ
+not_yet_line name = codes "refused: " ++ (name ++ line (codes ": not yet"))
 
--- the value, where it passes the test
-abbrev pub where_built : {A : Type 0} → (A → Bool) → Option A → Option A
-where_built test None = None
-where_built test (Some a) = if test a then Some a else None
+-- the name of a token rule, and the byte at which a fault stands
+abbrev pub rule_of : LexError → List ℕ
+rule_of (NotUtf8 at) = codes "utf8"
+rule_of (BadChar at) = codes "char"
+rule_of (OpenString at) = codes "string"
+rule_of (OpenComment at) = codes "comment"
+rule_of (LongName at) = codes "name-length"
+rule_of (WideNumber at) = codes "number"
+rule_of Memory = []
 
--- the items of a text as the file with this number, where its tokens are a program
-abbrev pub parsed_items : (file : ℕ) → List ℕ → Option (List Item)
-parsed_items file text = option_and_then (λ tokens. parser.program_of file (record { text = text; items = tokens })) (tokens_of text)
+-- the byte at which a fault stands
+abbrev pub offset_of : LexError → ℕ
+offset_of (NotUtf8 at) = at
+offset_of (BadChar at) = at
+offset_of (OpenString at) = at
+offset_of (OpenComment at) = at
+offset_of (LongName at) = at
+offset_of (WideNumber at) = at
+offset_of Memory = 0
 
--- the same, where the program is built
-abbrev pub items_of : (file : ℕ) → List ℕ → Option (List Item)
-items_of file text = where_built are_built (parsed_items file text)
+-- the line of a text that is refused by a rule at a byte: `refused: FILE:LINE:COLUMN: RULE`
+abbrev pub refused_line : (name text : List ℕ) → (at : ℕ) → (rule : List ℕ) → List ℕ
+refused_line name text at rule =
+    codes "refused: " ++ (name ++ (codes ":" ++ (decimal (line_at text at) ++ (codes ":" ++ (decimal (column_at text at) ++ (codes ": " ++ line rule))))))
 
--- the goal of a text, where its tokens are a query
-abbrev pub parsed_goal : List ℕ → Option AstGoal
-parsed_goal text = option_map (λ term. record { term = term }) (option_and_then (λ tokens. parser.query_of (record { text = text; items = tokens })) (tokens_of text))
+-- the line of a text whose tokens have a fault
+abbrev pub token_line : (name text : List ℕ) → LexError → List ℕ
+token_line name text error = refused_line name text (offset_of error) (rule_of error)
 
--- the same, where the query is built
-abbrev pub goal_of : List ℕ → Option AstGoal
-goal_of text = where_built is_horn_query (parsed_goal text)
+-- a value that is built, or the line of a text that isn't
+abbrev pub where_built : {A : Type 0} → (name : List ℕ) → (A → Bool) → Option A → Result A (List ℕ)
+where_built name test None = Err (not_yet_line name)
+where_built name test (Some a) = if test a then Ok a else Err (not_yet_line name)
+
+-- the items of a text of this name, as the file with this number, by its tokens
+abbrev pub items_by : (name : List ℕ) → (file : ℕ) → List ℕ → Result (List Token) LexError → Result (List Item) (List ℕ)
+items_by name file text (Err error) = Err (token_line name text error)
+items_by name file text (Ok tokens) = where_built name are_built (parser.program_of file (record { text = text; items = tokens }))
+
+-- the items of a text, or the line that refuses it
+abbrev pub items_of : (name : List ℕ) → (file : ℕ) → List ℕ → Result (List Item) (List ℕ)
+items_of name file text = items_by name file text (tokens_of text)
+
+-- the goal of a query's text by its tokens
+abbrev pub goal_by : List ℕ → Result (List Token) LexError → Result AstGoal (List ℕ)
+goal_by text (Err error) = Err (token_line (codes "query") text error)
+goal_by text (Ok tokens) = where_built (codes "query") is_horn_query (option_map (λ term. record { term = term }) (parser.query_of (record { text = text; items = tokens })))
+
+-- the goal of a query's text, or the line that refuses it
+abbrev pub goal_of : List ℕ → Result AstGoal (List ℕ)
+goal_of text = goal_by text (tokens_of text)
 
 -- the items of a text before those of later files, or its refusal
-abbrev pub with_items : List ℕ → Option (List Item) → Result (List Item) Output → Result (List Item) Output
-with_items name None later = Err (not_yet name)
-with_items name (Some items) (Ok later) = Ok (items ++ later)
-with_items name (Some items) (Err refusal) = Err refusal
+abbrev pub with_items : Result (List Item) (List ℕ) → Result (List Item) Output → Result (List Item) Output
+with_items (Err last) later = Err (line_only last Refused)
+with_items (Ok items) (Ok later) = Ok (items ++ later)
+with_items (Ok items) (Err refusal) = Err refusal
 
 -- the items of the files, numbered from this number on, or the output of the first that is refused
 abbrev pub items_read : (file : ℕ) → List FileEntry → Result (List Item) Output
 items_read file [] = Ok []
-items_read file (f ∷ fs) = with_items f.name (items_of file f.bytes) (items_read (file + 1) fs)
+items_read file (f ∷ fs) = with_items (items_of f.name file f.bytes) (items_read (file + 1) fs)

@@ -1,5 +1,5 @@
 -- What a whole run writes: the reference for the top call.
-use Rattle.std.specs.Prelude.{◌≡◌, ℕ, ◌≤◌, List, [], ◌∷◌, ◌++◌, ◌⊎◌, map, length, None, Some, Ok, Err, ⊤, codes, slice_index_or, IsSome, IsSomeAnd}
+use Rattle.std.specs.Prelude.{◌≡◌, ℕ, ◌≤◌, List, [], ◌∷◌, ◌++◌, ◌⊎◌, map, length, Some, Ok, Err, ⊤, codes, slice_index_or, IsSome, IsSomeAnd}
 use Rattle.std.specs.Fmt.{decimal}
 use Rattle.std.specs.List.{concat}
 use Rattle.std.specs.declared.option.Option.{Option}
@@ -12,21 +12,21 @@ use Rattle.lp_parser.specs.declared.ast.Item.{Item}
 use Rattle.elpi_cli.specs.declared.words.Command.{Command}
 use Rattle.elpi_cli.specs.declared.words.Command.TheVariants.{Run}
 use Rattle.elpi_cli.specs.declared.status.Status.{Status}
-use Rattle.elpi_cli.specs.declared.status.Status.TheVariants.{Words, ReadFault, WriteFault, Memory}
+use Rattle.elpi_cli.specs.declared.status.Status.TheVariants.{Words, Refused, ReadFault, WriteFault, Memory}
 use Rattle.elpi_cli.specs.Words.{command}
 use Rattle.elpi_cli.specs.Output.{Output, line, line_only, searched}
 use Rattle.elpi_cli.specs.Resolve.{program_of, query_of}
-use Rattle.elpi_cli.specs.Texts.{file_limit, files_read, not_yet, goal_of, items_read}
+use Rattle.elpi_cli.specs.Texts.{file_limit, files_read, goal_of, items_read}
 use Rattle.elpi_cli.specs.Written.{IsWholePieces}
 
 -- the word at an index
 abbrev pub word_at : List (List ℕ) → ℕ → List ℕ
 word_at words index = slice_index_or words index []
 
--- the query over the items of the files
-abbrev pub query_output : (steps answers : ℕ) → List Item → Option AstGoal → Output
-query_output steps answers items None = not_yet (codes "query")
-query_output steps answers items (Some goal) = searched (program_of items goal) (query_of items goal) steps answers
+-- the query over the items of the files, or its refusal
+abbrev pub query_output : (steps answers : ℕ) → List Item → Result AstGoal (List ℕ) → Output
+query_output steps answers items (Err last) = line_only last Refused
+query_output steps answers items (Ok goal) = searched (program_of items goal) (query_of items goal) steps answers
 
 -- the run over the items of the files, or the refusal of a file's text
 abbrev pub texts_output : (steps answers : ℕ) → List ℕ → Result (List Item) Output → Output

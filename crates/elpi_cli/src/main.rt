@@ -6,6 +6,7 @@
 
 mod horn;
 mod machine;
+mod positions;
 mod resolve;
 mod search;
 mod stack;

@@ -65,6 +65,24 @@ fn runs_write_the_rows(rt: HostRuntime) -> Result<(), Fail> {
         ("p a.", "p X", "refused: query: not yet\n", Status::Refused),
         ("p a. p.", "p X", "refused: a: not yet\n", Status::Refused),
         ("p :- q", "p", "refused: a: not yet\n", Status::Refused),
+        ("p true.", "p", "refused: a: not yet\n", Status::Refused),
+        ("p. /*", "p", "refused: a:1:4: comment\n", Status::Refused),
+        ("p a.b.", "p", "refused: a:1:4: char\n", Status::Refused),
+        ("p \"abc", "p", "refused: a:1:3: string\n", Status::Refused),
+        // Columns count characters.
+        (
+            "p.\nq \u{e9} $.",
+            "p",
+            "refused: a:2:5: char\n",
+            Status::Refused,
+        ),
+        (
+            "",
+            "X = 9223372036854775808",
+            "refused: query:1:5: number\n",
+            Status::Refused,
+        ),
+        ("p. % no more", "p", "answer 1\nno more\n", Status::Done),
         ("", "nope", "fault: unknown\n", Status::Fault),
         (
             "p. p. q.",
@@ -150,6 +168,26 @@ fn files_end_at_the_limit(rt: HostRuntime) -> Result<(), Fail> {
         assert_eq!(rt; bytes.as_slice(), written.as_bytes(), "{size}");
         assert_eq!(rt; answered, status, "{size}");
     }
+    Ok(())
+}
+
+#[test]
+fn long_names_and_other_bytes_are_refused(rt: HostRuntime) -> Result<(), Fail> {
+    let mut name = ByteText::new(rt.alloc());
+    for _ in 0..256 {
+        name.push(b'b')?;
+    }
+    name.push(b'.')?;
+    let (bytes, status) = run_with(rt.alloc(), "run|--query|p|a", Some(name), 0, (0, 0))?;
+    assert_eq!(rt;
+        bytes.as_slice(),
+        b"refused: a:1:1: name-length\n".as_slice()
+    );
+    assert_eq!(rt; status, Status::Refused);
+    let other = ByteText::from_slice(rt.alloc(), &[255])?;
+    let (bytes, status) = run_with(rt.alloc(), "run|--query|p|a", Some(other), 0, (0, 0))?;
+    assert_eq!(rt; bytes.as_slice(), b"refused: a:1:1: utf8\n".as_slice());
+    assert_eq!(rt; status, Status::Refused);
     Ok(())
 }
 

@@ -1,5 +1,5 @@
 // The top call.
-ghost use Rattle.std.specs.Prelude.{◌≡◌, ◌≢◌, ◌∷◌, ◌++◌, ◌<◌, [], List, IfSome, IfOk, IsOkAnd, IsErr, IsSome, Some, Ok, length, slice_index_or, codes};
+ghost use Rattle.std.specs.Prelude.{◌≡◌, ℕ, ◌≢◌, ◌∷◌, ◌++◌, ◌<◌, [], List, IfSome, IfOk, IsOkAnd, IsErr, IsSome, Some, Ok, length, slice_index_or, codes};
 ghost use Rattle.std.specs.String.{string_bytes};
 ghost use Rattle.lam_io.specs.Faults.{Rose, HasCause};
 ghost use Rattle.lam_io.specs.Reads.{bytes_of};
@@ -7,7 +7,9 @@ ghost use Rattle.lam_io.specs.Writes.{Appended};
 ghost use Rattle.lp_parser.specs.declared.ast.Item.{Item};
 ghost use Rattle.elpi_cli.specs.Words.{texts, command};
 ghost use Rattle.elpi_cli.specs.Written.{IsStop, Emits};
-ghost use Rattle.elpi_cli.specs.Texts.{with_file, with_items, items_of, not_yet};
+ghost use Rattle.elpi_cli.specs.Texts.{with_file, with_items, items_of};
+ghost use Rattle.elpi_cli.specs.Output.{line_only};
+ghost use Rattle.elpi_cli.specs.Begins.{IsRefusal};
 ghost use Rattle.elpi_cli.specs.Top.{output, files_output, query_output, texts_output, word_at, known_files, IsRunOf, IsStatusOf};
 ghost use Rattle.elpi_cli.specs.Causes.{ComesBy, ComesExactlyBy, IsComplete, IsDone, IsNoAnswer, IsBadWord, IsRefused, IsFault, IsOutOfSteps, IsMissing, IsTooLong};
 ghost use Rattle.elpi_cli.specs.Prepared.{Prepares, Loads, prepared_output, status_of, IsFileStatus, IsTextStatus};
@@ -17,7 +19,7 @@ use crate::machine::Machine;
 use crate::search::{answer_query, close};
 use crate::status::Status;
 use crate::symbols::Symbols;
-use crate::texts::{read_program, read_query};
+use crate::texts::{TextStop, read_program, read_query};
 use crate::words::{Command, WordsStop, read_words};
 use lam_io::{FileFail, Files, Sink};
 use std::alloc::{AllocError, Global};
@@ -180,15 +182,15 @@ fn begin(
     answers: u64,
     text: &[u8],
 ) -> Result<Prepared, AllocError>
-    ensures prepared { IfOk result (λ prepared. texts_output steps answers query.now (with_items name.now (items_of 0 text.now) (Ok [])) ≡ prepared_output prepared) }
+    ensures prepared { IfOk result (λ prepared. texts_output steps answers query.now (with_items (items_of name.now 0 text.now) (Ok [])) ≡ prepared_output prepared) }
     ensures status { IfOk result (λ prepared. IsTextStatus (status_of prepared)) }
 {
     let mut symbols = Symbols::new(alloc)?;
-    match read_program(alloc, text, &mut symbols)? {
-        None => refuse(alloc, name),
-        Some(mut horn) => match read_query(alloc, query.as_bytes(), &mut symbols, &mut horn)? {
-            None => refuse(alloc, "query"),
-            Some(span) => Ok(Prepared::Search(Job {
+    match read_program(alloc, name, text, &mut symbols) {
+        Err(stop) => refused(stop),
+        Ok(mut horn) => match read_query(alloc, query.as_bytes(), &mut symbols, &mut horn) {
+            Err(stop) => refused(stop),
+            Ok(span) => Ok(Prepared::Search(Job {
                 machine: Machine::start(alloc, span)?,
                 horn,
                 steps,
@@ -198,13 +200,13 @@ fn begin(
     }
 }
 
-// The refusal of a text whose form isn't built.
-fn refuse(alloc: Global, name: &str) -> Result<Prepared, AllocError>
-    ensures prepared { IfOk result (λ prepared. prepared_output prepared ≡ not_yet name.now) }
+// The line of a text that is refused.
+fn refused(stop: TextStop) -> Result<Prepared, AllocError>
+    ensures prepared { IfOk result (λ prepared. (last : List ℕ) → IsRefusal last stop → prepared_output prepared ≡ line_only last Status.Refused) }
     ensures status { IfOk result (λ prepared. IsTextStatus (status_of prepared)) }
 {
-    Ok(Prepared::Line(
-        format!(in alloc; "refused: {name}: not yet\n")?,
-        Status::Refused,
-    ))
+    match stop {
+        TextStop::Refused(line) => Ok(Prepared::Line(line, Status::Refused)),
+        TextStop::Memory => Err(AllocError),
+    }
 }

@@ -1,5 +1,8 @@
-use Rattle.elpi_cli.proofs.Begins.{reads-query}
+use Rattle.elpi_cli.specs.Texts.{goal_of}
+use Rattle.elpi_cli.proofs.Begins.{built-query}
 use Rattle.elpi_cli.proofs.texts.read_query.Goals as goal
 
-pub returns-in-Some : goal.returns-in-Some
-returns-in-Some c = reads-query _ c.in-Some.goal c.args.symbols.now c.resolve_query.new.symbols c.args.horn.now c.resolve_query.new.horn c.resolve_query.result (rw c.in-Some.is at c.in_ok-parse_goal.ensures) c.resolve_query.ensures.table c.resolve_query.ensures.program c.resolve_query.ensures.clauses c.resolve_query.ensures.goal
+pub returns : goal.returns
+returns c =
+    let found = rw c.in-Ok-Some.field-0-is at c.in-Ok-Some.ensures.goal in
+    built-query (goal_of c.args.text.now) c.in-Ok.goal c.args.symbols.now c.resolve_query.new.symbols c.args.horn.now c.resolve_query.new.horn c.in-Ok-Some.span c.in-Ok.ensures c.in-Ok-Some.ensures.table c.in-Ok-Some.ensures.program c.in-Ok-Some.ensures.clauses found.0 found.1
