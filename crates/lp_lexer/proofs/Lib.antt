@@ -1,2 +1,4 @@
+pub mod Numbers
+pub mod Fits
 pub mod Pieces
 pub mod Lists

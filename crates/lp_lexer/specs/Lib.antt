@@ -1,4 +1,6 @@
 pub mod Scan
 pub mod Words
+pub mod Symbols
+pub mod Numbers
 pub mod Pieces
 pub mod Lexing

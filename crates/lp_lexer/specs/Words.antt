@@ -1,15 +1,17 @@
--- The words that are no names.
-use Rattle.std.specs.Prelude.{ℕ, List, [], ◌∷◌, Bool, codes, bytes_eq}
-use Rattle.std.specs.List.{list_any}
+-- The names that are keywords.
+use Rattle.std.specs.Prelude.{ℕ, List, Option, Some, None, codes, bytes_eq, if◌then◌else◌}
+use Rattle.lp_lexer.specs.declared.token.Keyword.{Keyword}
+use Rattle.lp_lexer.specs.declared.token.Keyword.TheVariants as keyword
 
--- the keywords
-abbrev pub keywords : List (List ℕ)
-keywords = codes "pi" ∷ codes "sigma" ∷ codes "pred" ∷ codes "kind" ∷ codes "type" ∷ codes "constraint" ∷ codes "rule" ∷ codes "is" ∷ []
-
--- the reserved names that are words and no keywords
-abbrev pub reserved_words : List (List ℕ)
-reserved_words = codes "true" ∷ codes "fail" ∷ codes "same" ∷ codes "var" ∷ codes "name" ∷ codes "lt" ∷ codes "print" ∷ codes "beta" ∷ codes "declare_constraint" ∷ []
-
--- whether the word is one of the list
-abbrev pub is_among : List (List ℕ) → List ℕ → Bool
-is_among words word = list_any (bytes_eq word) words
+-- the keyword that the word is, if it is one
+abbrev pub keyword_of : List ℕ → Option Keyword
+keyword_of w =
+    if bytes_eq w (codes "pi") then Some keyword.Pi
+    else (if bytes_eq w (codes "sigma") then Some keyword.Sigma
+    else (if bytes_eq w (codes "pred") then Some keyword.Pred
+    else (if bytes_eq w (codes "kind") then Some keyword.Kind
+    else (if bytes_eq w (codes "type") then Some keyword.TypeWord
+    else (if bytes_eq w (codes "constraint") then Some keyword.Constraint
+    else (if bytes_eq w (codes "rule") then Some keyword.Rule
+    else (if bytes_eq w (codes "is") then Some keyword.Is
+    else None)))))))

@@ -5,8 +5,10 @@ mod error;
 mod front;
 mod laws;
 mod lex;
+mod number;
 mod piece;
 mod scan;
+mod symbols;
 #[cfg(test)]
 mod tests;
 mod token;
@@ -16,5 +18,5 @@ mod words;
 pub use error::LexError;
 pub use laws::{one_list_of_tokens, tokens_in_order};
 pub use lex::tokens;
-pub use token::{Symbol, Token, TokenKind};
+pub use token::{Keyword, Symbol, Token, TokenKind};
 pub use token_list::Tokens;

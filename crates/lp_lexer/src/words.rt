@@ -1,32 +1,30 @@
-//! The words that are no names.
+//! The names that are keywords.
 ghost use Rattle.std.specs.Prelude.{◌≡◌};
-ghost use Rattle.lp_lexer.specs.Words.{keywords, reserved_words, is_among};
+ghost use Rattle.lp_lexer.specs.Words.{keyword_of};
 
-/// Whether the word is a keyword.
-pub fn is_keyword(word: &[u8]) -> bool
-    ensures { result ≡ is_among keywords word.now }
-{
-    word == b"pi".as_slice()
-        || word == b"sigma".as_slice()
-        || word == b"pred".as_slice()
-        || word == b"kind".as_slice()
-        || word == b"type".as_slice()
-        || word == b"constraint".as_slice()
-        || word == b"rule".as_slice()
-        || word == b"is".as_slice()
-}
+use crate::token::Keyword;
 
-/// Whether the word is a reserved name and no keyword.
-pub fn is_reserved_word(word: &[u8]) -> bool
-    ensures { result ≡ is_among reserved_words word.now }
+/// The keyword that the word is, if it is one.
+pub fn keyword_of(word: &[char]) -> Option<Keyword>
+    ensures { result ≡ keyword_of word.now }
 {
-    word == b"true".as_slice()
-        || word == b"fail".as_slice()
-        || word == b"same".as_slice()
-        || word == b"var".as_slice()
-        || word == b"name".as_slice()
-        || word == b"lt".as_slice()
-        || word == b"print".as_slice()
-        || word == b"beta".as_slice()
-        || word == b"declare_constraint".as_slice()
+    if word == ['p', 'i'].as_slice() {
+        Some(Keyword::Pi)
+    } else if word == ['s', 'i', 'g', 'm', 'a'].as_slice() {
+        Some(Keyword::Sigma)
+    } else if word == ['p', 'r', 'e', 'd'].as_slice() {
+        Some(Keyword::Pred)
+    } else if word == ['k', 'i', 'n', 'd'].as_slice() {
+        Some(Keyword::Kind)
+    } else if word == ['t', 'y', 'p', 'e'].as_slice() {
+        Some(Keyword::TypeWord)
+    } else if word == ['c', 'o', 'n', 's', 't', 'r', 'a', 'i', 'n', 't'].as_slice() {
+        Some(Keyword::Constraint)
+    } else if word == ['r', 'u', 'l', 'e'].as_slice() {
+        Some(Keyword::Rule)
+    } else if word == ['i', 's'].as_slice() {
+        Some(Keyword::Is)
+    } else {
+        None
+    }
 }

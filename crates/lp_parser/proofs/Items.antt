@@ -109,6 +109,7 @@ clause_at : {all u v : List Lexeme} {is : List Item} (c d : Lexeme) (q : State) 
 clause_at c (lexeme.Mark Dot d) q g h m e = done_at c q g h (whole (settled_at q)) refl m e
 clause_at c (lexeme.Word k x d) q g h m e = absurd cc
 clause_at c (lexeme.Infix o d) q g h m e = absurd cc
+clause_at c (lexeme.Unbuilt d) q g h m e = absurd cc
 
 in_clause_at : {all u v : List Lexeme} {is : List Item} (c d : Lexeme) (q : State) → Got all is (c ∷ u) → Holds (c ∷ u) q (d ∷ v)
     → (o : Option State) → step q d ≡ o → (m : Moved) → in_clause (place_of c) o d q ≡ Some m → AtMoved all is m v

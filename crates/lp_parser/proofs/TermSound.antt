@@ -118,6 +118,7 @@ pub step_reads : {all v : List Lexeme} {q : State} (c : Lexeme) → Holds all q 
 step_reads {q} (lexeme.Word k x p) h q' e = atom_reads h (latest.Word k x p) a_word (front_at q) refl q' e
 step_reads (lexeme.Infix o p) h q' e = infixed_reads o p h q' e
 step_reads (lexeme.Mark m p) h q' e = absurd cc
+step_reads (lexeme.Unbuilt p) h q' e = absurd cc
 
 -- What is read where all brackets are closed is a phrase.
 pub settled_reads : {all v : List Lexeme} {q : State} → Holds all q v → (t : AstTerm) → settled_at q ≡ Some (t, []) → (h : Shape) × Phrase 1 h all v t

@@ -33,6 +33,7 @@ abbrev pub ends_clause : Place → Lexeme → State → Option Moved
 ends_clause p (lexeme.Mark Dot d) q = done p (whole (settled_at q))
 ends_clause p (lexeme.Word k x d) q = None
 ends_clause p (lexeme.Infix o d) q = None
+ends_clause p (lexeme.Unbuilt d) q = None
 
 -- a lexeme in the clause that began at the place p, where it leads the term to that state, or to none
 abbrev pub in_clause : Place → Option State → Lexeme → State → Option Moved

@@ -1,5 +1,6 @@
 -- The lexemes of a text with tokens.
 use Rattle.std.specs.Prelude.{ℕ, List, map}
+use Rattle.lp_lexer.specs.declared.token.Symbol.{Symbol}
 use Rattle.lp_lexer.specs.declared.token.Symbol.TheVariants as symbol
 use Rattle.lp_lexer.specs.declared.token.TokenKind.{TokenKind}
 use Rattle.lp_lexer.specs.declared.token.TokenKind.TheVariants as kind
@@ -10,14 +11,20 @@ use Rattle.lp_parser.specs.declared.ast.WordKind.TheVariants as word_kind
 use Rattle.lp_parser.specs.declared.ast.Operator.TheVariants as operator
 use Rattle.lp_parser.specs.declared.lexeme.Mark.TheVariants as mark
 use Rattle.lp_parser.specs.declared.lexeme.Lexeme.{Lexeme}
-use Rattle.lp_parser.specs.declared.lexeme.Lexeme.TheVariants.{Word, Infix, Mark}
+use Rattle.lp_parser.specs.declared.lexeme.Lexeme.TheVariants.{Word, Infix, Mark, Unbuilt}
 
--- what a token of that kind does, with its text and its place
+-- what a symbol does at its place
+abbrev pub symbol_lexeme : Symbol → Place → Lexeme
+symbol_lexeme symbol.Implied p = Infix operator.Implied p
+symbol_lexeme symbol.Comma p = Infix operator.Comma p
+symbol_lexeme symbol.Dot p = Mark mark.Dot p
+symbol_lexeme s p = Unbuilt p
+
+-- What a token of that kind does, with its text and its place. No phrase has one whose form isn't built yet.
 abbrev pub lexeme_at : TokenKind → List ℕ → Place → Lexeme
 lexeme_at kind.Name x p = Word word_kind.Name x p
-lexeme_at (kind.Sym symbol.Implied) x p = Infix operator.Implied p
-lexeme_at (kind.Sym symbol.Comma) x p = Infix operator.Comma p
-lexeme_at (kind.Sym symbol.Dot) x p = Mark mark.Dot p
+lexeme_at (kind.Sym s) x p = symbol_lexeme s p
+lexeme_at k x p = Unbuilt p
 
 -- the lexeme of a token in the file with that number
 abbrev pub lexeme_of : ℕ → List ℕ → Token → Lexeme

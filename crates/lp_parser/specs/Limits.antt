@@ -16,6 +16,7 @@ counted n (lexeme.Infix Comma p) = n + 1
 counted n (lexeme.Infix Implied p) = n
 counted n (lexeme.Mark Dot p) = 0
 counted n (lexeme.Word k x p) = n
+counted n (lexeme.Unbuilt p) = n
 
 -- At most 1,000 commas stand in each item, where n stand in the first one already.
 abbrev pub few_commas : ℕ → List Lexeme → Bool

@@ -14,6 +14,7 @@ abbrev pub place_of : Lexeme → Place
 place_of (lexeme.Word k x p) = p
 place_of (lexeme.Infix o p) = p
 place_of (lexeme.Mark m p) = p
+place_of (lexeme.Unbuilt p) = p
 
 -- Clause := T1 '.'
 pub data ItemOf : List Lexeme → List Lexeme → Item → Type 0 where

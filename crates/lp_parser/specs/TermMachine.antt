@@ -80,3 +80,4 @@ abbrev pub step : State → Lexeme → Option State
 step q (lexeme.Word k x p) = atom (front_at q) (latest.Word k x p) (stack_at q)
 step q (lexeme.Infix o p) = infixed q o p
 step q (lexeme.Mark m p) = None
+step q (lexeme.Unbuilt p) = None

@@ -19,6 +19,7 @@ impl Lexeme {
             Lexeme::Word(_, _, place) => *place,
             Lexeme::Infix(_, place) => *place,
             Lexeme::Mark(_, place) => *place,
+            Lexeme::Unbuilt(place) => *place,
         }
     }
 }

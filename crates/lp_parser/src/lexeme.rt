@@ -15,4 +15,6 @@ pub enum Lexeme {
     Word(WordKind, ByteText, Place),
     Infix(Operator, Place),
     Mark(Mark, Place),
+    /// A token whose form isn't built yet: no phrase has it.
+    Unbuilt(Place),
 }

@@ -18,6 +18,7 @@ pub fn count(commas: usize, lexeme: &Lexeme) -> usize
         Lexeme::Infix(Operator::Implied, _) => commas,
         Lexeme::Mark(Mark::Dot, _) => 0,
         Lexeme::Word(_, _, _) => commas,
+        Lexeme::Unbuilt(_) => commas,
     }
 }
 

@@ -196,6 +196,7 @@ impl State {
             )?)),
             Lexeme::Infix(operator, place) => with_infix(alloc, self, operator, place),
             Lexeme::Mark(_, _) => Ok(None),
+            Lexeme::Unbuilt(_) => Ok(None),
         }
     }
 

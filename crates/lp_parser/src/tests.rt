@@ -63,7 +63,7 @@ fn application(term: &AstTerm) -> Option<(&AstTerm, &[AstTerm])> {
 
 #[test]
 fn programs_have_their_items(rt: HostRuntime) -> Result<(), Fail> {
-    let rows: [(&str, Option<usize>); 15] = [
+    let rows: [(&str, Option<usize>); 18] = [
         ("", Some(0)),
         ("p.", Some(1)),
         ("p a. p b.", Some(2)),
@@ -79,6 +79,9 @@ fn programs_have_their_items(rt: HostRuntime) -> Result<(), Fail> {
         ("p :- q, .", None),
         ("p :- , q.", None),
         ("p :-", None),
+        ("p X.", None),
+        ("p 1.", None),
+        ("p = q.", None),
     ];
     for (text, wanted) in rows {
         assert_eq!(rt; items(rt.alloc(), text.as_bytes())?, wanted, "{text}");
