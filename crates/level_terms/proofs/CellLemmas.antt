@@ -43,3 +43,9 @@ free_at (x ∷ cells) (suc v) d h e = free_at cells v d (omega arith) e
 -- pairing one more assignment
 pub value_in-newest : (a : Assigned) (older : List Assigned) (v : ℕ) → value_in (a ∷ older) v ≡ cond (nat_eq a.variable v) (Some a.value) (value_in older v)
 value_in-newest a older v = refl
+
+-- the value in a variable's cell
+pub value_of-get : (cells : List Cell) (v : ℕ) (d : Cell) → v < length cells → value_of cells v ≡ option_map (λ t. t.index) (get_or cells v d).value
+value_of-get [] v d h = absurd (omega (arith, h))
+value_of-get (c ∷ cells) zero d h = refl
+value_of-get (c ∷ cells) (suc v) d h = value_of-get cells v d (omega (arith, h))

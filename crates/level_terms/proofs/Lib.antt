@@ -14,3 +14,4 @@ pub mod ValueLemmas
 pub mod NodeLemmas
 pub mod ConstantLemmas
 pub mod TreeLemmas
+pub mod ValidLemmas

@@ -123,7 +123,7 @@ value-applied nodes depths a env p h =
     ap (λ (f : ℕ → Term). apply_all (value_term nodes depths a) (levels k f)) flat
     ∙ closed-applied nodes depths k 0 a.value (λ i. At (term.Bound i)) env p (λ i. tt) (subst (λ n. valid nodes depths a.value n ≡ true) (let q : k ≡ 0 + k = omega arith in q) h) (λ i l. absurd (omega (arith, l)))
 
-value-valid : (nodes : List Node) (depths : List ℕ) (bs : List Assigned) → AllValid nodes depths bs → (v t : ℕ) → value_in bs v ≡ Some t → valid nodes depths t (slice_index depths v) ≡ true
+pub value-valid : (nodes : List Node) (depths : List ℕ) (bs : List Assigned) → AllValid nodes depths bs → (v t : ℕ) → value_in bs v ≡ Some t → valid nodes depths t (slice_index depths v) ≡ true
 value-valid nodes depths [] w v t e = absurd (let z : None ≡ Some t = e in cc)
 value-valid nodes depths (a ∷ older) w v t e = go (nat_eq a.variable v) refl e (λ q. value-valid nodes depths older w.1 v t q)
   where

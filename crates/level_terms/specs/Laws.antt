@@ -1,11 +1,12 @@
 -- What the laws on heaps and their readings say.
-use Rattle.std.specs.Prelude.{◌≡◌, ℕ, ◌<◌, List, [], ◌∷◌, ◌++◌, length, take, Some}
+use Rattle.std.specs.Prelude.{◌≡◌, ℕ, ◌<◌, ◌≤◌, List, [], ◌∷◌, ◌++◌, length, take, Some}
 use Rattle.level_terms.specs.declared.node.Node.{Node}
 use Rattle.level_terms.specs.declared.node.Change.{Change}
 use Rattle.level_terms.specs.declared.node.HeapMark.{HeapMark}
 use Rattle.level_terms.specs.Graph.{Graph, Assigned, node_at}
 use Rattle.level_terms.specs.Reading.{read, node_reads, assigned_term}
-use Rattle.level_terms.specs.Valid.{IsValid}
+use Rattle.level_terms.specs.Layer.{layer_of}
+use Rattle.level_terms.specs.Valid.{valid, layer_valid, IsValid}
 use Rattle.level_terms.specs.Sound.{IsSound}
 use Rattle.level_terms.specs.Growth.{Grows}
 use Rattle.level_terms.specs.Undo.{undone, mark_of, IsTrailOf, IsWithin, CanUndo}
@@ -34,6 +35,22 @@ ReadingsAreLocal = (g : Graph) (t depth : ℕ) (env other : ℕ → Term) → Is
 abbrev pub MakersKeepReadings : Type 0
 MakersKeepReadings = (g : Graph) (new : List Node) (more : List ℕ) (t : ℕ) (env : ℕ → Term) → IsSound g → t < length g.nodes →
     read (record g { nodes = new ++ g.nodes; depths = g.depths ++ more }) t env ≡ read g t env
+
+-- a call that notes nothing changes no reading of a node that was there
+abbrev pub GrowthKeepsReadings : Type 0
+GrowthKeepsReadings = (g h : Graph) (t : ℕ) (env : ℕ → Term) → IsSound g → Grows g h [] [] → t < length g.nodes → read h t env ≡ read g t env
+
+-- a node is valid at a depth by its parts
+abbrev pub NodesAreValid : Type 0
+NodesAreValid = (g : Graph) (t : ℕ) (n : Node) (depth : ℕ) → IsSound g → node_at g.nodes t ≡ Some n → valid g.nodes g.depths t depth ≡ layer_valid g.depths (layer_of (valid g.nodes g.depths) n) depth
+
+-- what is valid at a depth is valid deeper
+abbrev pub ValidDeeper : Type 0
+ValidDeeper = (g : Graph) (t depth deeper : ℕ) → IsValid g t depth → depth ≤ deeper → IsValid g t deeper
+
+-- whatever a call may change leaves older nodes valid
+abbrev pub GrowthKeepsValid : Type 0
+GrowthKeepsValid = (g h : Graph) (r s : List Change) (t depth : ℕ) → IsSound g → Grows g h r s → t < length g.nodes → IsValid g t depth → IsValid h t depth
 
 -- an assignment changes each reading by the instance of its variable
 abbrev pub AssignmentInstantiates : Type 0

@@ -178,7 +178,8 @@ impl Heap {
     /// The node that is the value of a variable; none exactly where it has no value.
     pub fn value(&self, v: VarId) -> Option<TermId>
         requires { v.index < length self.now.depths }
-        ensures { option_map (λ t. t.index) result ≡ value_in self.now.assigned v.index }
+        ensures value { option_map (λ t. t.index) result ≡ value_in self.now.assigned v.index }
+        ensures valid { IfSome result (λ t. IsValid self.now t.index (slice_index self.now.depths v.index)) }
     {
         self.cells[v.index as usize].value
     }

@@ -1,6 +1,6 @@
 //! What holds of heaps and their readings. Each function does nothing: its contract is the law.
 
-ghost use Rattle.level_terms.specs.Laws.{NodesRead, ReadingsAreLocal, MakersKeepReadings, AssignmentInstantiates, GrowthIsReflexive, GrowthIsTransitive, GrowthWithoutNotes, GrowthKeepsTrail, GrowthKeepsMarks, UndoIgnoresGrowth, UndoIgnoresNotes, MarksCanBeUndoneTo, UndoToNowIsNothing};
+ghost use Rattle.level_terms.specs.Laws.{NodesRead, ReadingsAreLocal, MakersKeepReadings, GrowthKeepsReadings, NodesAreValid, ValidDeeper, GrowthKeepsValid, AssignmentInstantiates, GrowthIsReflexive, GrowthIsTransitive, GrowthWithoutNotes, GrowthKeepsTrail, GrowthKeepsMarks, UndoIgnoresGrowth, UndoIgnoresNotes, MarksCanBeUndoneTo, UndoToNowIsNothing};
 
 /// A node reads as its parts make it, and an assigned variable as its value. What a node that is
 /// valid at a depth reads as hangs on the levels below the depth alone.
@@ -9,9 +9,18 @@ pub fn law_nodes()
     ensures local { ReadingsAreLocal }
 {}
 
-/// New nodes and variables change no reading of a node that was there.
+/// New nodes and variables change no reading of a node that was there, and neither does a call that
+/// notes nothing on a trail.
 pub fn law_makers()
-    ensures { MakersKeepReadings }
+    ensures makers { MakersKeepReadings }
+    ensures calls { GrowthKeepsReadings }
+{}
+
+/// A node is valid at a depth by its parts, and deeper too. Whatever a call may change leaves it so.
+pub fn law_validity()
+    ensures parts { NodesAreValid }
+    ensures deeper { ValidDeeper }
+    ensures kept { GrowthKeepsValid }
 {}
 
 /// An assignment changes each reading by the instance of its variable, and nothing else.
