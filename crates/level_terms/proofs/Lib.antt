@@ -1,0 +1,17 @@
+pub mod FoldLemmas
+pub mod GrowthLemmas
+pub mod SoundLemmas
+pub mod ReadingLemmas
+pub mod MakerLemmas
+pub mod ViewLemmas
+pub mod CellLemmas
+pub mod UndoLemmas
+pub mod TrailLemmas
+pub mod SubLemmas
+pub mod LocalLemmas
+pub mod CoverLemmas
+pub mod ValueLemmas
+pub mod NodeLemmas
+pub mod ConstantLemmas
+pub mod TreeLemmas
+pub mod ValidLemmas

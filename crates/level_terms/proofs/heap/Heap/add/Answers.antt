@@ -1,0 +1,36 @@
+use Rattle.std.proofs.Common.{[], ◌∷◌, sym, ap, ◌∙◌, reverse, subst, map, length}
+use Rattle.std.proofs.lemmas.List.{reverse-append}
+use Rattle.level_terms.specs.Sound.{IsMade}
+use Rattle.level_terms.specs.HeapView.{graph_of, assigned_all}
+use Rattle.level_terms.proofs.GrowthLemmas.{grows-refl, grows-node, grows-same}
+use Rattle.level_terms.proofs.SoundLemmas.{sound-node}
+use Rattle.level_terms.proofs.heap.Heap.add.Goals as goal
+
+pub returns-then-index-clause-grows : goal.returns-then-index-clause-grows
+returns-then-index-clause-grows c = grows-refl c.args.self.now []
+
+pub returns-in_err-push-clause-grows : goal.returns-in_err-push-clause-grows
+returns-in_err-push-clause-grows c =
+    grows-same c.args.self.now _ [] (rw (c.in_err-push.ensures.items) c.self.view_is)
+
+pub invariant_of-self-2 : goal.invariant_of-self-2
+invariant_of-self-2 c =
+    let nodes = ap reverse c.in_ok-push.ensures.items ∙ reverse-append c.self.inside.nodes.items (c.args.node ∷ []) in
+    record {
+      consistent = record {
+        values = c.self.invariant.consistent.values;
+        count = c.self.invariant.consistent.count;
+        room = c.self.invariant.consistent.room;
+        few = c.self.invariant.consistent.few;
+        once = c.self.invariant.consistent.once;
+      };
+      sound = sound-node (graph_of c.self.inside) _ c.args.node
+          (λ i. record { nodes = nodes i; depths = map (λ x. x.depth) c.self.inside.cells.items; assigned = assigned_all c.self.inside.bindings.items })
+          c.self.invariant.sound
+          (subst (λ g. IsMade g.nodes (length g.depths) c.args.node) (sym c.self.view_is) c.requires);
+    }
+
+pub returns-clause-grows : goal.returns-clause-grows
+returns-clause-grows c =
+    let nodes = ap reverse c.in_ok-push.ensures.items ∙ reverse-append c.self.inside.nodes.items (c.args.node ∷ []) in
+    grows-node c.args.self.now _ c.args.node (rw (← c.self.view_is) (λ i. record { nodes = nodes i; depths = map (λ x. x.depth) c.self.inside.cells.items; assigned = assigned_all c.self.inside.bindings.items }))

@@ -1,0 +1,10 @@
+pub mod Graph
+pub mod Layer
+pub mod Reading
+pub mod Valid
+pub mod Reached
+pub mod Sound
+pub mod Growth
+pub mod Undo
+pub mod HeapView
+pub mod Laws
