@@ -6,7 +6,9 @@ use denote.Sharing.{nothing, beside}
 use denote.RawPtr.{Ptr}
 use denote.Struct.Lending.{lent_at}
 use Rattle.std.specs.Box.Ownership.{box_owns}
-use Rattle.libc.specs.Heap.{chunk}
+use Rattle.std.specs.declared.alloc.Global.{Global}
+use Rattle.std.specs.contracts.impls.GlobalAllocator.TheImpl.{ghosts}
+use mir.Syntax.{Ty}
 
 -- the item at the index, if there is one
 unfoldable pub nth : {X : Type 0} → List X → ℕ → Option X
@@ -14,10 +16,14 @@ nth [] i = None
 nth (x ∷ xs) zero = Some x
 nth (x ∷ xs) (suc i) = nth xs i
 
+-- the right to free a block of the heap, which is the same by each handle
+abbrev pub frees : Ty → Ptr → Fml
+frees = ghosts.dealloc_token (record { memory = record { seal = tt } })
+
 module _ (R : RattleType) where
   -- what lies at the place, and the right to free it
   abbrev pub block_owns : Ptr × R.Denot → Fml
-  block_owns c = box_owns (λ τ p. chunk τ p) R c.0 c.1
+  block_owns c = box_owns frees R c.0 c.1
 
   -- all of them
   abbrev pub blocks_own : List (Ptr × R.Denot) → Fml

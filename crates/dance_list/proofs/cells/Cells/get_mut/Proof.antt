@@ -40,10 +40,9 @@ use types.Kit.{flt_l}
 use denote.Builtin.{usize}
 use Rattle.std.specs.Prelude.{Some}
 use Rattle.std.proofs.mem.Param.{El, R, args, el_x}
-use Rattle.dance_list.specs.Blocks.{nth, block_owns, blocks_own}
+use Rattle.dance_list.specs.Blocks.{frees, nth, block_owns, blocks_own}
 use denote.RawPtr.{ptr_val, lies_at}
 use types.ByLocal.{is}
-use Rattle.libc.specs.Heap.{chunk}
 use mir.Raw.{raw as bare}
 use denote.Memory.{lone}
 use Rattle.dance_list.proofs.Memory.{Cr, Pl, Mark, word_had, Besides, block_out, block_in}
@@ -90,7 +89,7 @@ module _ (E : El) {M : Type 1} {𝓤 : Ura M} (𝓛 : Logic 𝓤) (C : Calls �
   module _ (vs : List Val) (b o : ℕ) where
     -- all but the value
     abbrev Rest : Fml
-    Rest = fsep (chunk (bare (lone (R E).mir)) at.ptr) (fsep (Besides E 𝓛 d.blocks index) (fsep ((Mark E).own_val (tt, tt) vs) (cell_at full_share (Cr E).mir vs rb ro)))
+    Rest = fsep (frees (bare (lone (R E).mir)) at.ptr) (fsep (Besides E 𝓛 d.blocks index) (fsep ((Mark E).own_val (tt, tt) vs) (cell_at full_share (Cr E).mir vs rb ro)))
 
     back : at.ptr ≡ block_ptr b o → (x : el_x E) → nth d.blocks index ≡ Some (at.ptr, x)
         → (w : el_x E) → ent 𝓤 (sep 𝓤 (sem 𝓛 ((mem (R E)).own_at w b o)) (sem 𝓛 Rest)) (sem 𝓛 ((mem (Cr E)).own_at (new w) rb ro))
