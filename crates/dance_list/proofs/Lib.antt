@@ -1,0 +1,6 @@
+-- Lemmas of the crate.
+pub mod Chains
+pub mod Dances
+pub mod Memory
+pub mod Sharing
+pub mod Values

@@ -1,0 +1,33 @@
+// A list through its steps. Expected values are by hand.
+use crate::{DanceList, Node};
+use std::alloc::{AllocError, Global};
+use std::test::Fail;
+
+// The items of the linked nodes, in list order.
+fn items(list: &DanceList<u8>, alloc: Global) -> Result<Vec<u8>, AllocError> {
+    let mut found = Vec::new(alloc);
+    for (_, item) in list.iter() {
+        found.push(*item)?;
+    }
+    Ok(found)
+}
+
+#[test]
+fn unlinks_and_relinks(rt: HostRuntime) -> Result<(), Fail> {
+    let alloc = rt.alloc();
+    let mut list = DanceList::new(alloc);
+    let _a: Node = list.push_back(b'a')?;
+    let b: Node = list.push_back(b'b')?;
+    let _c: Node = list.push_back(b'c')?;
+    assert_eq!(rt; items(&list, alloc)?.as_slice(), b"abc".as_slice());
+    list.unlink(b);
+    assert_eq!(rt; items(&list, alloc)?.as_slice(), b"ac".as_slice());
+    let _d: Node = list.push_back(b'd')?;
+    assert_eq!(rt; items(&list, alloc)?.as_slice(), b"acd".as_slice());
+    list.truncate(1);
+    assert_eq!(rt; items(&list, alloc)?.as_slice(), b"ac".as_slice());
+    list.relink(b);
+    assert_eq!(rt; items(&list, alloc)?.as_slice(), b"abc".as_slice());
+    assert_eq!(rt; list.len(), 3);
+    Ok(())
+}
