@@ -345,3 +345,6 @@ pub same-front : {A : Type 0} (xs ys ms : List A) (y : A) → length ms ≡ 1 �
 same-front xs ys [] y l e = absurd (omega (arith, l))
 same-front xs ys (m ∷ []) y l e = snoc-init xs ys m y e
 same-front xs ys (m ∷ k ∷ ms) y l e = absurd (omega (arith, l))
+
+pub then-last : {A : Type 0} (xs ys zs : List A) (y : A) → zs ≡ ys ++ y ∷ [] → ys ≡ xs → zs ≡ xs ++ y ∷ []
+then-last xs ys zs y e f = e ∙ ap (λ z. z ++ y ∷ []) f

@@ -2,5 +2,6 @@
 pub mod Chains
 pub mod Dances
 pub mod Memory
+pub mod Once
 pub mod Sharing
 pub mod Values

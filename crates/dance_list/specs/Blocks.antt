@@ -6,7 +6,6 @@ use denote.Sharing.{nothing, beside}
 use denote.RawPtr.{Ptr}
 use denote.Struct.Lending.{lent_at}
 use Rattle.std.specs.Box.Ownership.{box_owns}
-use Rattle.std.specs.declared.alloc.Global.{Global}
 use Rattle.std.specs.contracts.impls.GlobalAllocator.TheImpl.{ghosts}
 use mir.Syntax.{Ty}
 

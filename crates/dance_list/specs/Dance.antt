@@ -1,5 +1,6 @@
 -- A restorable list as three lists: all its nodes, the linked ones, and the stack of the unlinked ones.
-use Rattle.std.specs.Prelude.{◌≡◌, ℕ, suc, ◌+◌, List, [], ◌∷◌, ◌++◌, map, length, Option, Some, None, ⊤}
+use Rattle.std.specs.Prelude.{◌≡◌, ◌≢◌, ℕ, suc, ◌+◌, List, [], ◌∷◌, ◌++◌, map, length, Option, Some, None, ⊤}
+use Rattle.std.specs.List.{AllPairs}
 use lib.ListN.{set}
 use denote.RawPtr.{Ptr}
 use denote.Bor.{Bor}
@@ -31,6 +32,10 @@ linked l = l.1
 
 abbrev pub unlinked : {X : Type 0} → Dance X → List (Unlinked X)
 unlinked l = l.2
+
+-- no node stands twice
+abbrev pub IsEachOnce : List Node → Type 0
+IsEachOnce = AllPairs (λ m n. m ≢ n)
 
 module _ {X : Type 0} where
   -- the first node, or `after` where there is none

@@ -1,6 +1,7 @@
 // The list.
 ghost use Rattle.std.specs.Prelude.{◌≡◌, ◌+◌, List, [], ◌∷◌, ◌++◌, map, length, IfOk, IfErr, OnErr, OnOk};
-ghost use Rattle.dance_list.specs.Dance.{Unlinked, undone, left_by, nodes, linked, unlinked, first_of};
+ghost use Rattle.std.specs.List.{All, Contains};
+ghost use Rattle.dance_list.specs.Dance.{Unlinked, undone, left_by, nodes, linked, unlinked, first_of, IsEachOnce};
 ghost use Rattle.dance_list.specs.declared.cells.Node.{Node as Place};
 
 use crate::cells::{Cells, Node};
@@ -55,6 +56,17 @@ impl<T> DanceList<T> {
         ensures { result ≡ length (linked self.now) }
     {
         self.len
+    }
+
+    /// Does nothing. Its contract is what holds of every list: no node stands twice among all its nodes, and these are
+    /// the linked ones with the unlinked ones, each once.
+    pub fn is_sound(&self)
+        ensures once { IsEachOnce (nodes self.now) }
+        ensures apart { IsEachOnce (map (λ l. l.0) (linked self.now) ++ map (λ u. u.0) (unlinked self.now)) }
+        ensures known { All (Contains (nodes self.now)) (map (λ l. l.0) (linked self.now) ++ map (λ u. u.0) (unlinked self.now)) }
+        ensures all { length (linked self.now) + length (unlinked self.now) ≡ length (nodes self.now) }
+    {
+        let _nodes = &self.nodes;
     }
 
     // The first linked node.
