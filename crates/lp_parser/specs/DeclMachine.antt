@@ -66,13 +66,13 @@ pred_name _ = None
 
 -- the mode that is read
 abbrev pub with_mode : Word → List AstArg → Option Bool → DeclMoved
-with_mode w as None = None
-with_mode w as (Some b) = Some (To (decl.Colon w as b))
+with_mode w bs None = None
+with_mode w bs (Some b) = Some (To (decl.Colon w bs b))
 
 -- a mode, behind these arguments
 abbrev pub pred_mode : Word → List AstArg → Lexeme → DeclMoved
-pred_mode w as (lexeme.Word Name x p) = with_mode w as (mode_of x)
-pred_mode w as _ = None
+pred_mode w bs (lexeme.Word Name x p) = with_mode w bs (mode_of x)
+pred_mode w bs _ = None
 
 -- behind the name of a predicate
 abbrev pub pred_named : Word → Lexeme → DeclMoved
@@ -81,24 +81,24 @@ pred_named w c = pred_mode w [] c
 
 -- the `:` behind a mode
 abbrev pub pred_colon : Word → List AstArg → Bool → Lexeme → DeclMoved
-pred_colon w as b (lexeme.Mark mark.Colon p) = Some (To (decl.ArgType w as b (Want [])))
-pred_colon w as b _ = None
+pred_colon w bs b (lexeme.Mark mark.Colon p) = Some (To (decl.ArgType w bs b (Want [])))
+pred_colon w bs b _ = None
 
 -- behind an argument
 abbrev pub pred_argument : Word → List AstArg → Lexeme → DeclMoved
-pred_argument w as (lexeme.Infix Comma p) = Some (To (decl.Mode w as))
-pred_argument w as (lexeme.Mark mark.Dot p) = Some (Done (PredDecl w as))
-pred_argument w as _ = None
+pred_argument w bs (lexeme.Infix Comma p) = Some (To (decl.Mode w bs))
+pred_argument w bs (lexeme.Mark mark.Dot p) = Some (Done (PredDecl w bs))
+pred_argument w bs _ = None
 
 -- behind the type of an argument, where it may end
 abbrev pub pred_typed : Word → List AstArg → Bool → Lexeme → Option AstType → DeclMoved
-pred_typed w as b c None = None
-pred_typed w as b c (Some t) = pred_argument w (as ++ record { input = b; ty = t } ∷ []) c
+pred_typed w bs b c None = None
+pred_typed w bs b c (Some t) = pred_argument w (bs ++ record { input = b; ty = t } ∷ []) c
 
 -- in the type of an argument, where a lexeme leads the type to that state, or to none
 abbrev pub in_arg_type : Word → List AstArg → Bool → Option TypeState → Lexeme → Option AstType → DeclMoved
-in_arg_type w as b (Some q) c t = Some (To (decl.ArgType w as b q))
-in_arg_type w as b None c t = pred_typed w as b c t
+in_arg_type w bs b (Some q) c t = Some (To (decl.ArgType w bs b q))
+in_arg_type w bs b None c t = pred_typed w bs b c t
 
 -- where a lexeme leads
 abbrev pub decl_move : DeclState → Lexeme → DeclMoved
@@ -109,6 +109,6 @@ decl_move (decl.Kinded ws n) c = kind_typed ws n c
 decl_move (decl.Type ws q) c = in_type ws (type_step q c) c (type_whole (type_settled q))
 decl_move decl.Pred c = pred_name c
 decl_move (decl.PredNamed w) c = pred_named w c
-decl_move (decl.Mode w as) c = pred_mode w as c
-decl_move (decl.Colon w as b) c = pred_colon w as b c
-decl_move (decl.ArgType w as b q) c = in_arg_type w as b (type_step q c) c (type_whole (type_settled q))
+decl_move (decl.Mode w bs) c = pred_mode w bs c
+decl_move (decl.Colon w bs b) c = pred_colon w bs b c
+decl_move (decl.ArgType w bs b q) c = in_arg_type w bs b (type_step q c) c (type_whole (type_settled q))

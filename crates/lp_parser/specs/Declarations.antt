@@ -36,7 +36,7 @@ pub data Arg : List Lexeme → List Lexeme → AstArg → Type 0 where
 -- Arg (',' Arg)*
 pub data Args : List Lexeme → List Lexeme → List AstArg → Type 0 where
   last_arg : {u v : List Lexeme} {a : AstArg} → Arg u v a → Args u v (a ∷ [])
-  arg_and : {u v w : List Lexeme} {a : AstArg} {as : List AstArg} (q : Place) → Arg u (lexeme.Infix Comma q ∷ v) a → Args v w as → Args u w (a ∷ as)
+  arg_and : {u v w : List Lexeme} {a : AstArg} {bs : List AstArg} (q : Place) → Arg u (lexeme.Infix Comma q ∷ v) a → Args v w bs → Args u w (a ∷ bs)
 
 -- Kind := 'kind' Name (',' Name)* KExp '.'
 -- Type := 'type' Name (',' Name)* TExp '.'
@@ -48,5 +48,5 @@ pub data DeclOf : List Lexeme → List Lexeme → Decl → Type 0 where
       → Names u v ws → TypeExp v (lexeme.Mark Dot q ∷ w) t → DeclOf (lexeme.Mark TypeWord p ∷ u) w (TypeDecl ws t)
   pred_alone : {w : List Lexeme} (x : List ℕ) (p d q : Place)
       → DeclOf (lexeme.Mark PredWord p ∷ lexeme.Word Name x d ∷ lexeme.Mark Dot q ∷ w) w (PredDecl (record { text = x; place = d }) [])
-  pred : {u w : List Lexeme} {as : List AstArg} (x : List ℕ) (p d q : Place)
-      → Args u (lexeme.Mark Dot q ∷ w) as → DeclOf (lexeme.Mark PredWord p ∷ lexeme.Word Name x d ∷ u) w (PredDecl (record { text = x; place = d }) as)
+  pred : {u w : List Lexeme} {bs : List AstArg} (x : List ℕ) (p d q : Place)
+      → Args u (lexeme.Mark Dot q ∷ w) bs → DeclOf (lexeme.Mark PredWord p ∷ lexeme.Word Name x d ∷ u) w (PredDecl (record { text = x; place = d }) bs)

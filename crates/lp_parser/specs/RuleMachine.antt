@@ -64,7 +64,7 @@ whole (Some (t, f ∷ s)) = None
 
 -- the test, where all its brackets are closed
 abbrev pub over_test : State → Option AstTerm
-over_test (Have f l (frame.Test ∷ [])) = Some (joined f (atom_of l))
+over_test (Have f l (frame.Test ∷ s)) = Some (joined f (atom_of l))
 over_test _ = None
 
 -- the variable alone that is read, behind which a context may end

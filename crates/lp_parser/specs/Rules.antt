@@ -43,13 +43,13 @@ pub data Pair : List Lexeme → List Lexeme → WordPair → Type 0 where
 -- Pair (',' Pair)*
 pub data PairList : List Lexeme → List Lexeme → List WordPair → Type 0 where
   last_pair : {u v : List Lexeme} {a : WordPair} → Pair u v a → PairList u v (a ∷ [])
-  pair_and : {u v w : List Lexeme} {a : WordPair} {as : List WordPair} (p : Place)
-      → Pair u (lexeme.Infix Comma p ∷ v) a → PairList v w as → PairList u w (a ∷ as)
+  pair_and : {u v w : List Lexeme} {a : WordPair} {bs : List WordPair} (p : Place)
+      → Pair u (lexeme.Infix Comma p ∷ v) a → PairList v w bs → PairList u w (a ∷ bs)
 
 -- [ '>' Pair (',' Pair)* ]
 pub data Pairs : List Lexeme → List Lexeme → List WordPair → Type 0 where
   no_pairs : {u : List Lexeme} → Pairs u u []
-  pairs : {u v : List Lexeme} {as : List WordPair} (p : Place) → PairList u v as → Pairs (lexeme.Mark Greater p ∷ u) v as
+  pairs : {u v : List Lexeme} {bs : List WordPair} (p : Place) → PairList u v bs → Pairs (lexeme.Mark Greater p ∷ u) v bs
 
 -- Test (',' Test)*, where a test is a closed T9
 pub data TestList : List Lexeme → List Lexeme → List AstTerm → Type 0 where
@@ -69,9 +69,9 @@ pub data Body : List Lexeme → List Lexeme → Option AstTerm → Type 0 where
 
 -- Rule := 'rule' Heads [ '>' Pair (',' Pair)* ] [ Bar Test (',' Test)* ] [ '<=>' T1 ] '.'
 pub data RuleOf : List Lexeme → List Lexeme → Rule → Type 0 where
-  rule : {u v w x y : List Lexeme} {hs gs : List RuleHead} {as : List WordPair} {ts : List AstTerm} {b : Option AstTerm} (p q : Place)
-      → Heads u v hs gs → Pairs v w as → Tests w x ts → Body x (lexeme.Mark Dot q ∷ y) b
-      → RuleOf (lexeme.Mark RuleWord p ∷ u) y (record { kept = hs; removed = gs; pairs = as; tests = ts; body = b; place = p })
+  rule : {u v w x y : List Lexeme} {hs gs : List RuleHead} {bs : List WordPair} {ts : List AstTerm} {b : Option AstTerm} (p q : Place)
+      → Heads u v hs gs → Pairs v w bs → Tests w x ts → Body x (lexeme.Mark Dot q ∷ y) b
+      → RuleOf (lexeme.Mark RuleWord p ∷ u) y (record { kept = hs; removed = gs; pairs = bs; tests = ts; body = b; place = p })
 
 -- Rule*
 pub data RulesOf : List Lexeme → List Lexeme → List Rule → Type 0 where

@@ -2,17 +2,22 @@
 #![tactic(auto)]
 
 mod ast;
+mod binders;
 mod error;
+mod item_state;
 mod lexeme;
+mod parse;
 mod program;
 mod stack;
 mod state;
 mod token;
 
 pub use ast::{
-    AstArg, AstArgs, AstGoal, AstTerm, AstTerms, AstType, AstTypes, Block, Clause, Decl, Item, Operator,
-    Place, Rule, RuleHead, RuleHeads, RuleList, Word, WordKind, WordPair, WordPairs, Words,
+    AstArg, AstArgs, AstGoal, AstTerm, AstTerms, AstType, AstTypes, Block, Clause, Decl, Item,
+    Operator, Place, Rule, RuleHead, RuleHeads, RuleList, Word, WordKind, WordPair, WordPairs,
+    Words,
 };
 pub use error::{GrammarRule, ParseError};
 pub use lexeme::{Closer, Lexeme, Literal, Mark};
+pub use parse::{parse_program, parse_query};
 pub use program::Ast;
