@@ -1,3 +1,4 @@
 pub mod Levels
 pub mod Walks
 pub mod Types
+pub mod Declarations
