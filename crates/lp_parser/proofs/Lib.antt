@@ -1,1 +1,4 @@
 pub mod Levels
+pub mod TermComplete
+pub mod TermSound
+pub mod TermCompletions
