@@ -7,11 +7,13 @@ mod lexeme;
 mod program;
 mod stack;
 mod state;
+mod term;
 mod token;
 
 pub use ast::{
-    AstArg, AstArgs, AstGoal, AstTerm, AstTerms, AstType, AstTypes, Block, Clause, Decl, Item, Operator,
-    Place, Rule, RuleHead, RuleHeads, RuleList, Word, WordKind, WordPair, WordPairs, Words,
+    AstArg, AstArgs, AstGoal, AstTerm, AstTerms, AstType, AstTypes, Block, Clause, Decl, Item,
+    Operator, Place, Rule, RuleHead, RuleHeads, RuleList, Word, WordKind, WordPair, WordPairs,
+    Words,
 };
 pub use error::{GrammarRule, ParseError};
 pub use lexeme::{Closer, Lexeme, Literal, Mark};

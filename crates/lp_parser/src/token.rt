@@ -125,7 +125,12 @@ pub fn lexeme_at(
     }
 }
 
-fn word_lexeme(alloc: Global, kind: WordKind, text: &[u8], place: Place) -> Result<Lexeme, AllocError>
+fn word_lexeme(
+    alloc: Global,
+    kind: WordKind,
+    text: &[u8],
+    place: Place,
+) -> Result<Lexeme, AllocError>
     ensures { IfOk result (λ it. it ≡ Lexeme.Word kind text.now place) }
 {
     Ok(Lexeme::Word(kind, ByteText::from_slice(alloc, text)?, place))
