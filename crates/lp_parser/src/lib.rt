@@ -10,6 +10,7 @@ mod parse;
 mod program;
 mod stack;
 mod state;
+mod term;
 mod token;
 
 pub use ast::{
