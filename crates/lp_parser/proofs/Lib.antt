@@ -6,3 +6,6 @@ pub mod Walks
 pub mod Types
 pub mod Declarations
 pub mod RuleTests
+pub mod Rules
+pub mod RulesSound
+pub mod RulesCompletions

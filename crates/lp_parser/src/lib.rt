@@ -5,6 +5,7 @@ mod ast;
 mod binders;
 mod error;
 mod item_state;
+mod laws;
 mod lexeme;
 mod parse;
 mod program;
@@ -19,6 +20,10 @@ pub use ast::{
     Words,
 };
 pub use error::{GrammarRule, ParseError};
+pub use laws::{
+    one_program, one_query, program_deep, program_read, program_unexpected, query_deep, query_read,
+    query_unexpected,
+};
 pub use lexeme::{Closer, Lexeme, Literal, Mark};
 pub use parse::{parse_program, parse_query};
 pub use program::Ast;
