@@ -9,3 +9,5 @@ pub mod RuleTests
 pub mod Rules
 pub mod RulesSound
 pub mod RulesCompletions
+pub mod Blocks
+pub mod Outcomes

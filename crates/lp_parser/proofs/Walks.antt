@@ -52,3 +52,11 @@ moves_within in_it k (moves {s} {r} {c} e m) = moves (k s r c e) (moves_within i
 pub data AtMoved {S A : Type 0} (at : S → List Lexeme → Type 0) (is : A → List Lexeme → Type 0) : Moved S A → List Lexeme → Type 0 where
   goes_to : {s : S} {u : List Lexeme} → at s u → AtMoved at is (To s) u
   is_done : {a : A} {u : List Lexeme} → is a u → AtMoved at is (Done a) u
+
+-- A way is the same, whatever follows.
+pub moves_more : {S A : Type 0} {f : S → Lexeme → Option (Moved S A)} {s z : S} {u w : List Lexeme} → Moves f s u z w → (v : List Lexeme) → Moves f s (u ++ v) z (w ++ v)
+moves_more rests v = rests
+moves_more (moves e m) v = moves e (moves_more m v)
+
+pub ends_more : {S A : Type 0} {f : S → Lexeme → Option (Moved S A)} {s : S} {u w : List Lexeme} {a : A} → Ends f s u a w → (v : List Lexeme) → Ends f s (u ++ v) a (w ++ v)
+ends_more (ends m e) v = ends (moves_more m v) e
