@@ -11,3 +11,4 @@ pub mod RulesSound
 pub mod RulesCompletions
 pub mod Blocks
 pub mod Outcomes
+pub mod Answers
