@@ -12,3 +12,4 @@ pub mod RulesCompletions
 pub mod Blocks
 pub mod Outcomes
 pub mod Answers
+pub mod Items

@@ -1,4 +1,4 @@
-use Rattle.lp_parser.proofs.Answers as proved
+use Rattle.lp_parser.proofs.Items as proved
 use Rattle.lp_parser.proofs.laws.one_program.Goals as goal
 
 pub returns : goal.returns
