@@ -13,3 +13,4 @@ pub mod Blocks
 pub mod Outcomes
 pub mod Answers
 pub mod Items
+pub mod Readings
