@@ -1,3 +1,14 @@
 pub mod Lexemes
 pub mod Grammar
+pub mod Types
+pub mod Declarations
+pub mod Rules
+pub mod Program
+pub mod Nesting
+pub mod Refusal
 pub mod TermMachine
+pub mod TypeMachine
+pub mod DeclMachine
+pub mod RuleMachine
+pub mod ItemMachine
+pub mod Reading

@@ -2,8 +2,11 @@
 #![tactic(auto)]
 
 mod ast;
+mod binders;
 mod error;
+mod item_state;
 mod lexeme;
+mod parse;
 mod program;
 mod stack;
 mod state;
@@ -17,4 +20,5 @@ pub use ast::{
 };
 pub use error::{GrammarRule, ParseError};
 pub use lexeme::{Closer, Lexeme, Literal, Mark};
+pub use parse::{parse_program, parse_query};
 pub use program::Ast;
