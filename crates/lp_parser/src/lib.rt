@@ -3,15 +3,18 @@
 
 mod ast;
 mod binders;
+mod decl_steps;
 mod error;
 mod item_state;
 mod lexeme;
+mod nesting;
 mod parse;
 mod program;
 mod stack;
 mod state;
 mod term;
 mod token;
+mod type_steps;
 
 pub use ast::{
     AstArg, AstArgs, AstGoal, AstTerm, AstTerms, AstType, AstTypes, Block, Clause, Decl, Item,
