@@ -5,3 +5,4 @@ pub mod TermCompletions
 pub mod Walks
 pub mod Types
 pub mod Declarations
+pub mod Loops

@@ -6,7 +6,9 @@ ghost use Rattle.lp_parser.specs.RuleMachine.{empty_rule, whole, rule_move};
 ghost use Rattle.lp_parser.specs.DeclMachine.{decl_move};
 ghost use Rattle.lp_parser.specs.ItemMachine.{block_name, between_rules, in_rule, block_move, in_decl, in_block, ends_clause, in_clause, begins_marked, begins, move, moved, ends_query, in_query, query_step, query_whole};
 
-use crate::ast::{AstTerm, Block, Clause, Decl, Item, Place, Rule, RuleList, Word, WordKind, Words};
+use crate::ast::{
+    AstTerm, Block, Clause, Decl, Item, Place, Rule, RuleList, Word, WordKind, Words,
+};
 use crate::item_state::{
     BlockState, DeclState, Given, ItemState, Moved, QueryState, RulePlace, RuleState,
 };
@@ -227,11 +229,7 @@ pub fn advance(
 }
 
 /// Behind one more lexeme of a query that may end before it.
-fn in_query(
-    alloc: Global,
-    state: State,
-    lexeme: Lexeme,
-) -> Result<Option<QueryState>, AllocError>
+fn in_query(alloc: Global, state: State, lexeme: Lexeme) -> Result<Option<QueryState>, AllocError>
     ensures { IfOk result (λ it. it ≡ in_query (step state lexeme) lexeme (whole (settled_at state))) }
 {
     match lexeme {

@@ -6,13 +6,18 @@ mod binders;
 mod decl_steps;
 mod error;
 mod item_state;
+mod item_steps;
 mod lexeme;
 mod nesting;
 mod parse;
 mod program;
+mod refusal;
+mod rule_steps;
 mod stack;
 mod state;
 mod term;
+#[cfg(test)]
+mod tests;
 mod token;
 mod type_steps;
 

@@ -40,7 +40,10 @@ fn behind_tests(alloc: Global, rule: Rule, lexeme: Lexeme) -> RuleMoved
     ensures { result ≡ behind_tests rule lexeme }
 {
     match lexeme {
-        Lexeme::Mark(Mark::Equivalent, _) => to(rule, RulePlace::Body(State::Want(Stack::new(alloc)))),
+        Lexeme::Mark(Mark::Equivalent, _) => to(
+            rule,
+            RulePlace::Body(State::Want(Stack::new(alloc))),
+        ),
         Lexeme::Mark(Mark::Dot, _) => Some(Moved::Done(rule)),
         _ => None,
     }
@@ -79,7 +82,10 @@ fn behind_heads(alloc: Global, rule: Rule, lexeme: Lexeme) -> Result<RuleMoved, 
 fn head_begins(alloc: Global, rule: Rule, side: Side) -> RuleMoved
     ensures { result ≡ head_begins rule side }
 {
-    to(rule, RulePlace::Head(side, None, State::Want(Stack::new(alloc))))
+    to(
+        rule,
+        RulePlace::Head(side, None, State::Want(Stack::new(alloc))),
+    )
 }
 
 /// Behind `rule`.
@@ -270,7 +276,10 @@ fn pair_left(rule: Rule, lexeme: Lexeme) -> RuleMoved
     ensures { result ≡ pair_left rule lexeme }
 {
     match lexeme {
-        Lexeme::Word(WordKind::Var, text, place) => to(rule, RulePlace::Tilde(Word { text, place })),
+        Lexeme::Word(WordKind::Var, text, place) => to(
+            rule,
+            RulePlace::Tilde(Word { text, place }),
+        ),
         _ => None,
     }
 }
@@ -385,12 +394,7 @@ fn comma_in_test(
 }
 
 /// In a test.
-fn in_test(
-    alloc: Global,
-    rule: Rule,
-    state: State,
-    lexeme: Lexeme,
-) -> Result<RuleMoved, AllocError>
+fn in_test(alloc: Global, rule: Rule, state: State, lexeme: Lexeme) -> Result<RuleMoved, AllocError>
     ensures { IfOk result (λ it. it ≡ in_test rule (step state lexeme) lexeme state) }
 {
     match lexeme {
