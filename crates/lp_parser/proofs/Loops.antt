@@ -3,7 +3,9 @@ use Rattle.std.proofs.Common.{◌≡◌, ℕ, zero, suc, ◌+◌, ◌<◌, ◌�
 use Rattle.std.proofs.lemmas.Bool.Decides.{leb_tells}
 use Rattle.std.proofs.lemmas.Option.{same_Some}
 use Rattle.lp_parser.specs.declared.error.GrammarRule.{GrammarRule}
+use Rattle.lp_parser.specs.declared.error.GrammarRule.TheVariants.{Query}
 use Rattle.lp_parser.specs.declared.lexeme.Lexeme.{Lexeme}
+use Rattle.lp_parser.specs.declared.lexeme.Lexeme.TheVariants as lexeme
 use Rattle.lp_parser.specs.Nesting.{Nesting, flat, nested}
 use Rattle.lp_parser.specs.Refusal.{rule_after}
 use Rattle.lp_parser.specs.Reading.{Outcome, Accepted, Unexpected, Deep, Reader, Progress, Going, Stopped, onward, next, ended, read, first}
@@ -66,3 +68,15 @@ module _ {Z A : Type 0} (f : Z → Lexeme → Option Z) (g : Z → Option A) (z0
           }
           | inr fails ↦ absurd (omega (arith, h, fails.1))
         ]
+
+-- Everything in a query stands in a query.
+pub in_a_query : (c : Lexeme) → rule_after Query c ≡ Query
+in_a_query (lexeme.Word k x p) = refl
+in_a_query (lexeme.Literal l p) = refl
+in_a_query (lexeme.Quantifier q p) = refl
+in_a_query (lexeme.Infix o p) = refl
+in_a_query (lexeme.Lambda p) = refl
+in_a_query (lexeme.OpenRound p) = refl
+in_a_query (lexeme.OpenSquare p) = refl
+in_a_query (lexeme.Closer c p) = refl
+in_a_query (lexeme.Mark m p) = refl

@@ -216,7 +216,7 @@ closed_reads : {all v : List Lexeme} {b : List Frame} {p : AstTerm × List Frame
 closed_reads c d (settled r p m) q e = closed_behind c d r p q e
 
 -- nothing was read where a term's stack is as it began
-term_bottom : {all u : List Lexeme} {b s : List Frame} → Reading all b s u → b ≡ [] → s ≡ [] → u ≡ all
+pub term_bottom : {all u : List Lexeme} {b s : List Frame} → Reading all b s u → b ≡ [] → s ≡ [] → u ≡ all
 term_bottom start d e = refl
 term_bottom start_test d e = absurd cc
 term_bottom (left o g r l pa) d e = absurd cc
@@ -227,7 +227,7 @@ term_bottom (in_list r i es) d e = absurd cc
 term_bottom (in_tail r i es) d e = absurd cc
 
 -- and where a test's is
-test_bottom : {all u : List Lexeme} {b s : List Frame} → Reading all b s u → b ≡ frame.Test ∷ [] → s ≡ frame.Test ∷ [] → u ≡ all
+pub test_bottom : {all u : List Lexeme} {b s : List Frame} → Reading all b s u → b ≡ frame.Test ∷ [] → s ≡ frame.Test ∷ [] → u ≡ all
 test_bottom start d e = absurd cc
 test_bottom start_test d e = refl
 test_bottom (left o g r l pa) d e = absurd cc

@@ -53,22 +53,19 @@ pub fn parse_query(alloc: Global, tokens: &Tokens) -> Result<AstGoal, ParseError
 {
     let mut state = QueryState::Term(State::Want(Stack::new(alloc)));
     let mut nesting = Nesting::new(alloc);
-    let mut rule = GrammarRule::Query;
     for index in 0..tokens.len() {
         let lexeme = lexeme_at(alloc, tokens, index, 0)?;
         nesting.see(&lexeme)?;
-        let next_rule = rule_after(rule, &lexeme);
         match state.step(alloc, lexeme)? {
             Some(next) => state = next,
-            None => return Err(ParseError::Unexpected(index, rule)),
+            None => return Err(ParseError::Unexpected(index, GrammarRule::Query)),
         }
         if nesting.depth() > MAX_NESTING {
             return Err(ParseError::Deep(index));
         }
-        rule = next_rule;
     }
     match state.into_whole(alloc)? {
         Some(term) => Ok(AstGoal { term }),
-        None => Err(ParseError::Unexpected(tokens.len(), rule)),
+        None => Err(ParseError::Unexpected(tokens.len(), GrammarRule::Query)),
     }
 }

@@ -8,4 +8,4 @@ use Rattle.lp_parser.proofs.Loops.{IsBehind}
 use Rattle.lp_parser.proofs.parse.parse_query.Given as goal
 
 abbrev pub invariant-loop-index : goal.invariant-loop-index
-invariant-loop-index l = IsBehind query_step query_whole (Term (Want [])) rule.Query (lexemes_of 0 l.tokens) l.index l.state l.nesting l.rule
+invariant-loop-index l = IsBehind query_step query_whole (Term (Want [])) rule.Query (lexemes_of 0 l.tokens) l.index l.state l.nesting rule.Query
