@@ -14,3 +14,5 @@ pub mod Outcomes
 pub mod Answers
 pub mod Items
 pub mod Readings
+pub mod TestEnds
+pub mod Loops

@@ -227,7 +227,7 @@ term_bottom (in_list r i es) d e = absurd cc
 term_bottom (in_tail r i es) d e = absurd cc
 
 -- and where a test's is
-test_bottom : {all u : List Lexeme} {b s : List Frame} → Reading all b s u → b ≡ frame.Test ∷ [] → s ≡ frame.Test ∷ [] → u ≡ all
+pub test_bottom : {all u : List Lexeme} {b s : List Frame} → Reading all b s u → b ≡ frame.Test ∷ [] → s ≡ frame.Test ∷ [] → u ≡ all
 test_bottom start d e = absurd cc
 test_bottom start_test d e = refl
 test_bottom (left o g r l pa) d e = absurd cc

@@ -3,16 +3,24 @@
 
 mod ast;
 mod binders;
+mod decl_steps;
 mod error;
 mod item_state;
+mod item_steps;
 mod laws;
 mod lexeme;
+mod nesting;
 mod parse;
 mod program;
+mod refusal;
+mod rule_steps;
 mod stack;
 mod state;
 mod term;
+#[cfg(test)]
+mod tests;
 mod token;
+mod type_steps;
 
 pub use ast::{
     AstArg, AstArgs, AstGoal, AstTerm, AstTerms, AstType, AstTypes, Block, Clause, Decl, Item,
