@@ -62,10 +62,11 @@ typed_ends {d} z t (steps {p} {c} f g) e ws =
 arg_moves : {u v : List Lexeme} {a : AstArg} → Arg u v a → (w : Word) (pre : List AstArg)
     → (z : TypeState) × Moves decl_move (decl.Mode w pre) u (decl.ArgType w pre a.input z) v × (type_settled z ≡ Some (a.ty, []))
 arg_moves (argument {b} x p q e t) w pre =
-    let on = type_goes t [] in
-    (on.0,
-    moves (ap (with_mode w pre) e) (moves refl (steps_within (decl.ArgType w pre b) (λ y z c f. ap (λ o. in_arg_type w pre b o c (type_whole (type_settled y))) f) on.1)),
-    on.2)
+    let on = type_goes t [] in (
+      on.0,
+      moves (ap (with_mode w pre) e) (moves refl (steps_within (decl.ArgType w pre b) (λ y z c f. ap (λ o. in_arg_type w pre b o c (type_whole (type_settled y))) f) on.1)),
+      on.2,
+    )
 
 args_end : {u v : List Lexeme} {q : Place} {bs : List AstArg} → Args u (lexeme.Mark mark.Dot q ∷ v) bs → (w : Word) (pre : List AstArg)
     → Ends decl_move (decl.Mode w pre) u (PredDecl w (pre ++ bs)) v
@@ -289,10 +290,12 @@ names_complete p given.TypeOf ws =
 -- the type of an argument ends
 arg_ends : (p : Place) (w : Word) (bs : List AstArg) (b : Bool) (q : TypeState) → DeclCompletes (decl.ArgType w bs b q)
 arg_ends p w bs b q =
-    let done = type_completes p q in
-    (done.0 ++ a_mark mark.Dot p ∷ [], PredDecl w (bs ++ record { input = b; ty = done.1.1 } ∷ []),
-    ends (steps_within (decl.ArgType w bs b) (λ y z c f. ap (λ o. in_arg_type w bs b o c (type_whole (type_settled y))) f) (done.1.3 (a_mark mark.Dot p ∷ [])))
-    (ap (λ o. in_arg_type w bs b None (a_mark mark.Dot p) o) done.1.2))
+    let done = type_completes p q in (
+      done.0 ++ a_mark mark.Dot p ∷ [],
+      PredDecl w (bs ++ record { input = b; ty = done.1.1 } ∷ []),
+      ends (steps_within (decl.ArgType w bs b) (λ y z c f. ap (λ o. in_arg_type w bs b o c (type_whole (type_settled y))) f) (done.1.3 (a_mark mark.Dot p ∷ [])))
+          (ap (λ o. in_arg_type w bs b None (a_mark mark.Dot p) o) done.1.2),
+    )
 
 first_move : {z y : DeclState} (c : Lexeme) → decl_move z c ≡ Some (To y) → DeclCompletes y → DeclCompletes z
 first_move c e (u, d, m) = (c ∷ u, d, moves_first e m)
@@ -303,9 +306,11 @@ decl_completes p (decl.Named g ws) = names_complete p g ws
 decl_completes p (decl.Kind ws n) = (a_mark mark.TypeWord p ∷ a_mark mark.Dot p ∷ [], KindDecl ws n, ends (one_move refl) refl)
 decl_completes p (decl.Kinded ws n) = (a_mark mark.Dot p ∷ [], KindDecl ws n, ends rests refl)
 decl_completes p (decl.Type ws q) =
-    let done = type_completes p q in
-    (done.0 ++ a_mark mark.Dot p ∷ [], TypeDecl ws done.1.1,
-    ends (in_type_moves (done.1.3 (a_mark mark.Dot p ∷ [])) ws) (ap (λ o. in_type ws None (a_mark mark.Dot p) o) done.1.2))
+    let done = type_completes p q in (
+      done.0 ++ a_mark mark.Dot p ∷ [],
+      TypeDecl ws done.1.1,
+      ends (in_type_moves (done.1.3 (a_mark mark.Dot p ∷ [])) ws) (ap (λ o. in_type ws None (a_mark mark.Dot p) o) done.1.2),
+    )
 decl_completes p decl.Pred = (a_name p ∷ a_mark mark.Dot p ∷ [], PredDecl (record { text = codes "i"; place = p }) [], ends (one_move refl) refl)
 decl_completes p (decl.PredNamed w) = (a_mark mark.Dot p ∷ [], PredDecl w [], ends rests refl)
 decl_completes p (decl.Mode w bs) = first_move (a_name p) refl (first_move (a_mark mark.Colon p) refl (arg_ends p w bs true (Want [])))

@@ -166,7 +166,7 @@ module _ {Z A : Type 0} (f : Z → Lexeme → Option Z) (g : Z → Option A) (st
       nesting = nested_next;
       rule = rule_append r pre (c ∷ []) ∙ ap (λ q. rule_after q c) a.rule;
       shallow = subst (IsShallow u) (ap (λ n. n + 1) a.index ∙ sym (length_snoc pre c))
-      (shallow_more u b.index (subst (IsShallow u) (sym a.index) a.shallow) (subst (λ n. n ≤ 2000) (sym depth_next) h));
+          (shallow_more u b.index (subst (IsShallow u) (sym a.index) a.shallow) (subst (λ n. n ≤ 2000) (sym depth_next) h));
     }
 
     stepped : ((pre' : List Lexeme) (b' : Reader Z) → Behind u pre' v b' → IsAnswer language r u (read f g (Going b') v))

@@ -110,9 +110,11 @@ part hs gs bs ts p = record { kept = hs; removed = gs; pairs = bs; tests = ts; b
 
 head_parts_go : {u v : List Lexeme} {hs gs : List RuleHead} → Heads u v hs gs → (p : Place) → (d : Side) × Goes_on (here (empty_rule p) at.Start) u (here (part hs gs [] [] p) (at.Heads d)) v
 head_parts_go (all_kept a) p = (Kept, heads_go a (here (empty_rule p) at.Start) (empty_rule p) Kept (λ q. refl))
-head_parts_go (some_removed {hs} q a b) p =
-    (Removed, and_moves (heads_go a (here (empty_rule p) at.Start) (empty_rule p) Kept (λ q. refl))
-    (moves refl (heads_go b (here (part hs [] [] [] p) at.Divided) (part hs [] [] [] p) Removed (λ q. refl))))
+head_parts_go (some_removed {hs} q a b) p = (
+  Removed,
+  and_moves (heads_go a (here (empty_rule p) at.Start) (empty_rule p) Kept (λ q. refl))
+      (moves refl (heads_go b (here (part hs [] [] [] p) at.Divided) (part hs [] [] [] p) Removed (λ q. refl))),
+)
 head_parts_go (all_removed q b) p = (Removed, moves refl (heads_go b (here (empty_rule p) at.Divided) (empty_rule p) Removed (λ q. refl)))
 
 -- The state is one behind which the body may follow, or the end.
@@ -166,10 +168,11 @@ test_list_goes (last_test {t} a) r =
     (here r (at.Test on.0), in_test_goes r on.1, at_tested r t on.0 on.2)
 test_list_goes (test_and {t} {ts} p a b) r =
     let on = test_over a in
-    let by = test_list_goes b (with_test r t) in
-    (by.0,
-    and_moves (in_test_goes r on.1) (moves (ap (λ o. in_test r o (lexeme.Infix Comma p) on.0) (no_infix on.0 [] Comma p on.3) ∙ ap (λ o. ends_test r o (lexeme.Infix Comma p)) on.2) by.1),
-    subst (AtTests by.0) (tests_more r t ts) by.2)
+    let by = test_list_goes b (with_test r t) in (
+      by.0,
+      and_moves (in_test_goes r on.1) (moves (ap (λ o. in_test r o (lexeme.Infix Comma p) on.0) (no_infix on.0 [] Comma p on.3) ∙ ap (λ o. ends_test r o (lexeme.Infix Comma p)) on.2) by.1),
+      subst (AtTests by.0) (tests_more r t ts) by.2,
+    )
 
 tests_go : {u v : List Lexeme} {ts : List AstTerm} → Tests u v ts → (z : RuleState) (hs gs : List RuleHead) (bs : List WordPair) (p : Place) → AtPairs z (part hs gs bs [] p)
     → (y : RuleState) × Goes_on z u y v × AtTests y (part hs gs bs ts p)

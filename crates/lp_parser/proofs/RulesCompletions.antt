@@ -78,10 +78,12 @@ head_completes r d x q b =
     let z = on.1.0 in
     let t = on.1.1 in
     let e : settled_at z ≡ Some (t, []) = on.1.2 ∙ ap (λ y. Some (t, y)) b in
-    let by = heads_complete (with_head r d (record { context = x; goal = t })) d in
-    (on.0 ++ lexeme.Closer Round spot ∷ by.0, by.1,
-    and_ends (goes_within {g = rule_move} (λ q. here r (at.Head d x q)) (λ q z c e. ap (λ o. in_head r d x o c q) e) (on.1.3 (lexeme.Closer Round spot ∷ by.0)))
-    (moves_first (ap (λ o. in_head r d x o (lexeme.Closer Round spot) z) (no_closer z t e spot) ∙ ap (λ o. head_ends r d x (whole o)) e) by.2))
+    let by = heads_complete (with_head r d (record { context = x; goal = t })) d in (
+      on.0 ++ lexeme.Closer Round spot ∷ by.0,
+      by.1,
+      and_ends (goes_within {g = rule_move} (λ q. here r (at.Head d x q)) (λ q z c e. ap (λ o. in_head r d x o c q) e) (on.1.3 (lexeme.Closer Round spot ∷ by.0)))
+          (moves_first (ap (λ o. in_head r d x o (lexeme.Closer Round spot) z) (no_closer z t e spot) ∙ ap (λ o. head_ends r d x (whole o)) e) by.2),
+    )
 
 -- A body that is begun ends.
 body_completes : (r : Rule) (q : State) → bottom (stack_at q) ≡ [] → RuleCompletes (here r (at.Body q))
@@ -89,10 +91,12 @@ body_completes r q b =
     let on = completes q in
     let z = on.1.0 in
     let t = on.1.1 in
-    let e : settled_at z ≡ Some (t, []) = on.1.2 ∙ ap (λ y. Some (t, y)) b in
-    (on.0 ++ dot ∷ [], with_body r t,
-    ends (goes_within {g = rule_move} (λ q. here r (at.Body q)) (λ q z c e. ap (λ o. in_body r o c q) e) (on.1.3 (dot ∷ [])))
-    (ap (λ o. ends_body r (whole o) dot) e))
+    let e : settled_at z ≡ Some (t, []) = on.1.2 ∙ ap (λ y. Some (t, y)) b in (
+      on.0 ++ dot ∷ [],
+      with_body r t,
+      ends (goes_within {g = rule_move} (λ q. here r (at.Body q)) (λ q z c e. ap (λ o. in_body r o c q) e) (on.1.3 (dot ∷ [])))
+          (ap (λ o. ends_body r (whole o) dot) e),
+    )
 
 -- A test that is begun ends.
 test_completes : (r : Rule) (q : State) → Reached (here r (at.Test q)) → RuleCompletes (here r (at.Test q))
@@ -103,10 +107,12 @@ test_completes r q k =
     let reached = k (on.0 ++ dot ∷ []) in
     let h = test_holds r q reached.1 in
     let e : settled_at z ≡ Some (t, frame.Test ∷ []) = on.1.2 ∙ ap (λ y. Some (t, y)) (bottom_is h.1) in
-    let over : over_test z ≡ Some t = closed_over (goes_reads (on.1.3 (dot ∷ [])) h.1) t e in
-    (on.0 ++ dot ∷ [], with_test r t,
-    ends (goes_within {g = rule_move} (λ q. here r (at.Test q)) (λ q z c e. ap (λ o. in_test r o c q) e) (on.1.3 (dot ∷ [])))
-    (ap (λ o. ends_test r o dot) over))
+    let over : over_test z ≡ Some t = closed_over (goes_reads (on.1.3 (dot ∷ [])) h.1) t e in (
+      on.0 ++ dot ∷ [],
+      with_test r t,
+      ends (goes_within {g = rule_move} (λ q. here r (at.Test q)) (λ q z c e. ap (λ o. in_test r o c q) e) (on.1.3 (dot ∷ [])))
+          (ap (λ o. ends_test r o dot) over),
+    )
 
 new_head_completes : (r : Rule) (d : Side) → RuleCompletes (here r (at.Head d None (state.Want [])))
 new_head_completes r d = head_completes r d None (state.Want []) refl

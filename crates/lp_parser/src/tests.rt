@@ -163,7 +163,10 @@ fn terms_have_their_trees(rt: HostRuntime) -> Result<(), Fail> {
         ("sigma x\\ p x", "sigma@0 x\\@6 app1 p@9 x@11 "),
         ("pi x Y\\ p", "pi@0 x\\@3 pi@0 Y\\@5 p@8 "),
         ("[]", "list0@0 "),
-        ("[a, b c, x\\ d | [e | T]]", "list3|@0 a@1 app1 b@4 c@6 x\\@9 d@12 list1|@16 e@17 ?T@21 "),
+        (
+            "[a, b c, x\\ d | [e | T]]",
+            "list3|@0 a@1 app1 b@4 c@6 x\\@9 d@12 list1|@16 e@17 ?T@21 ",
+        ),
     ];
     for (text, wanted) in rows {
         let shown = shown_query(rt.alloc(), text)?;
@@ -297,19 +300,40 @@ fn items_have_their_trees(rt: HostRuntime) -> Result<(), Fail> {
         ("kind a type.", "kind0 a@5 "),
         ("kind a, b type -> type -> type.", "kind2 a@5 b@8 "),
         ("type a, b c.", "type a@5 b@8 c0@10 "),
-        ("type f a -> (b -> c) -> d.", "type f@5 -> a0@7 -> -> b0@13 c0@18 d0@24 "),
-        ("type f list A (g b) -> (c).", "type f@5 -> list2@7 A0@12 g1@15 b0@17 c0@24 "),
+        (
+            "type f a -> (b -> c) -> d.",
+            "type f@5 -> a0@7 -> -> b0@13 c0@18 d0@24 ",
+        ),
+        (
+            "type f list A (g b) -> (c).",
+            "type f@5 -> list2@7 A0@12 g1@15 b0@17 c0@24 ",
+        ),
         ("pred p.", "pred p@5 "),
-        ("pred p i:a, o:b -> c.", "pred p@5 i: a0@9 o: -> b0@14 c0@19 "),
+        (
+            "pred p i:a, o:b -> c.",
+            "pred p@5 i: a0@9 o: -> b0@14 c0@19 ",
+        ),
         ("constraint { }", "block "),
-        ("constraint p q { rule (p X). }", "block p@11 q@13 rule@17 app1 p@23 ?X@25 \\ "),
+        (
+            "constraint p q { rule (p X). }",
+            "block p@11 q@13 rule@17 app1 p@23 ?X@25 \\ ",
+        ),
         (
             "constraint { rule (G ?- p X) (q) \\ (D ?- r) > X ~ Y, A ~ B | var X, lt (1 + 2) 3 <=> s, t. }",
             "block rule@13 G?-@19 app1 p@24 ?X@26 q@30 \\ D?-@36 r@41 X~@46 Y@50 A~@53 B@57 | app1 var@61 ?X@65 | app2 lt@68 +@74 1@72 2@76 3@79 <=> ,@86 s@85 t@88 ",
         ),
-        ("constraint { rule \\ (p) <=> true. rule (X). }", "block rule@13 \\ p@21 <=> true@28 rule@34 ?X@40 \\ "),
-        ("constraint { rule (p) | [a, x\\ b] . }", "block rule@13 p@19 \\ | list2@24 a@25 x\\@28 b@31 "),
-        ("constraint { rule (p) | a, pi f . } p.", "block rule@13 p@19 \\ | a@24 | pi@27 f@30 clause@36 p@36 "),
+        (
+            "constraint { rule \\ (p) <=> true. rule (X). }",
+            "block rule@13 \\ p@21 <=> true@28 rule@34 ?X@40 \\ ",
+        ),
+        (
+            "constraint { rule (p) | [a, x\\ b] . }",
+            "block rule@13 p@19 \\ | list2@24 a@25 x\\@28 b@31 ",
+        ),
+        (
+            "constraint { rule (p) | a, pi f . } p.",
+            "block rule@13 p@19 \\ | a@24 | pi@27 f@30 clause@36 p@36 ",
+        ),
     ];
     for (text, wanted) in rows {
         let shown = shown_program(rt.alloc(), text)?;
@@ -583,7 +607,13 @@ fn each_item_and_rule_is_nested_from_0(rt: HostRuntime) -> Result<(), Fail> {
         ("type a ", "a -> ", 2001, "a.", "4003 deep"),
         ("kind a ", "type -> ", 2001, "type.", "4003 deep"),
         ("kind a", ", a", 2001, " type.", "4002 deep"),
-        ("constraint { ", "rule (p, p) \\ (p) | p, p <=> p, p. ", 1000, "}", "1 items"),
+        (
+            "constraint { ",
+            "rule (p, p) \\ (p) | p, p <=> p, p. ",
+            1000,
+            "}",
+            "1 items",
+        ),
         ("constraint { rule (p) | p", ", p", 2000, ". }", "1 items"),
         ("constraint { rule (p) | p", ", p", 2001, ". }", "4008 deep"),
         ("constraint ", "a ", 3000, "{ }", "1 items"),
@@ -603,7 +633,10 @@ fn programs_are_appended(rt: HostRuntime) -> Result<(), Fail> {
     let more = parse_program(alloc, &tokens(alloc, b"p b.".as_slice())?, 1)?;
     ast.append(more)?;
     assert_eq!(rt; ast.len(), 2);
-    assert_eq!(rt; first_place(&ast).ok_or("no clause")?, Place { file: 0, at: 0 });
+    assert_eq!(rt;
+        first_place(&ast).ok_or("no clause")?,
+        Place { file: 0, at: 0 }
+    );
     Ok(())
 }
 
