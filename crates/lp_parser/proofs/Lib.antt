@@ -6,3 +6,4 @@ pub mod Walks
 pub mod Types
 pub mod Declarations
 pub mod Loops
+pub mod TestEnds
