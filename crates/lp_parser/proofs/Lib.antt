@@ -16,3 +16,4 @@ pub mod Items
 pub mod Readings
 pub mod TestEnds
 pub mod Loops
+pub mod TestEnds

@@ -8,6 +8,7 @@ use crate::item_state::{Moved, RulePlace, RuleState, Side};
 use crate::lexeme::{Closer, Lexeme, Mark};
 use crate::stack::Stack;
 use crate::state::{Frame, Front, Latest, State};
+use crate::term::close_with;
 use std::alloc::{AllocError, Global};
 
 /// Where a lexeme leads in a rule, if one goes on so.
@@ -180,21 +181,15 @@ fn round_in_head(
 ) -> Result<RuleMoved, AllocError>
     ensures { IfOk result (λ it. it ≡ in_head rule side context (closing state Closer.Round) (Lexeme.Closer Closer.Round place) state) }
 {
-    match state {
-        State::Have(front, latest, frames) => {
-            match State::Have(front, latest, frames).into_settled(alloc)? {
-                Some((term, mut frames)) => match frames.pop() {
-                    None => head_ends(rule, side, context, term),
-                    Some(Frame::Group(front)) => {
-                        let state = State::Have(front, Latest::Group(term), frames);
-                        Ok(to(rule, RulePlace::Head(side, context, state)))
-                    }
-                    Some(_) => Ok(None),
-                },
-                None => Ok(None),
-            }
-        }
-        State::Want(_) | State::Quantifier(_, _, _) | State::Words(_, _, _, _, _) => Ok(None),
+    let Some((term, frames)) = state.into_settled(alloc)? else {
+        return Ok(None);
+    };
+    if frames.is_empty() {
+        return head_ends(rule, side, context, term);
+    }
+    match close_with(alloc, Closer::Round, term, frames)? {
+        Some(state) => Ok(to(rule, RulePlace::Head(side, context, state))),
+        None => Ok(None),
     }
 }
 
@@ -322,12 +317,12 @@ fn paired(alloc: Global, rule: Rule, lexeme: Lexeme) -> Result<RuleMoved, AllocE
 fn over_test(alloc: Global, state: State) -> Result<Option<AstTerm>, AllocError>
     ensures { IfOk result (λ it. it ≡ over_test state) }
 {
-    match state {
-        State::Have(front, latest, mut frames) => match frames.pop() {
-            Some(Frame::Test) => Ok(Some(front.join(alloc, latest.into_term())?)),
-            _ => Ok(None),
-        },
-        State::Want(_) | State::Quantifier(_, _, _) | State::Words(_, _, _, _, _) => Ok(None),
+    if !is_at_test(&state) {
+        return Ok(None);
+    }
+    match state.into_settled(alloc)? {
+        Some((term, _)) => Ok(Some(term)),
+        None => Ok(None),
     }
 }
 
