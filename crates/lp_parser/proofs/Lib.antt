@@ -16,4 +16,3 @@ pub mod Items
 pub mod Readings
 pub mod TestEnds
 pub mod Loops
-pub mod TestEnds
