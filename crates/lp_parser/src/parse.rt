@@ -72,6 +72,7 @@ impl Machine for QueryState {
 /// the index of the first token with which no program begins, or with the number of tokens where the program
 /// isn't over, and with what stands there; `Deep` with the index of the token at which the nesting passes
 /// 2,000; `Memory` where memory runs out.
+#[tactic(auto, unfolding(crate::specs::Reading::items_of))]
 pub fn parse_program(alloc: Global, tokens: &Tokens, file: u32) -> Result<Ast, ParseError>
     ensures program { IfOk result (λ ast. program_of file tokens.now ≡ Accepted ast) }
     ensures refusal { IfErr result (λ error. IsRefusal error (program_of file tokens.now)) }
@@ -81,6 +82,7 @@ pub fn parse_program(alloc: Global, tokens: &Tokens, file: u32) -> Result<Ast, P
 }
 
 /// The query of the tokens, whose places are in the file 0. The errors are those of `parse_program`.
+#[tactic(auto, unfolding(crate::specs::Reading::term_of))]
 pub fn parse_query(alloc: Global, tokens: &Tokens) -> Result<AstGoal, ParseError>
     ensures query { IfOk result (λ goal. query_of tokens.now ≡ Accepted goal.term) }
     ensures refusal { IfErr result (λ error. IsRefusal error (query_of tokens.now)) }
