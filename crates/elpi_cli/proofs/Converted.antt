@@ -1,5 +1,5 @@
 -- The conversion of parsed words, atoms, conjunctions and clauses, step by step.
-use Rattle.std.proofs.Common.{◌≡◌, ℕ, ◌+◌, ◌-◌, Bool, true, false, ◌&&◌, List, [], ◌∷◌, ◌++◌, length, map, take, drop, refl, ap, sym, ◌∙◌, append_assoc, length-append, arith}
+use Rattle.std.proofs.Common.{◌≡◌, ℕ, suc, ◌+◌, ◌-◌, Bool, true, false, ◌&&◌, List, [], ◌∷◌, ◌++◌, length, map, take, drop, refl, ap, sym, ◌∙◌, append_assoc, length-append, arith}
 use Rattle.std.proofs.lemmas.List.{drop_at, take_all}
 use Rattle.std.specs.Prelude.{IsTrue}
 use Rattle.std.specs.List.{list_all}
@@ -13,7 +13,7 @@ use Rattle.ref_terms.specs.unification.Spine.{apply_all}
 use Rattle.elpi_cli.specs.declared.horn.Atom.{Atom}
 use Rattle.elpi_cli.specs.HornSearch.{atoms_of}
 use Rattle.elpi_cli.specs.HornProgram.{applied, atom_term, conjunction, is_free}
-use Rattle.elpi_cli.specs.Resolve.{term_of, Form, a_word, an_application, a_conjunction, another, form_of, form_where, is_atom, is_conjunction}
+use Rattle.elpi_cli.specs.Resolve.{term_of, Form, a_word, an_application, a_conjunction, another, form_of, form_where, is_atom, is_conjunction, commas}
 use Rattle.elpi_cli.specs.Conversion.{IsWordOf, are_words, constants, AreWordsOf, IsAtomOf, Grows, IsSpanOf}
 use Rattle.elpi_cli.proofs.Constants.{constant, IsOpen, apply-open}
 use Rattle.elpi_cli.proofs.Parsed.{term-app, term-op, form-app, form-comma}
@@ -67,6 +67,7 @@ pub record GoalRead (table : List (List ℕ)) (old atoms : List Atom) (t rest : 
   pub grown : atoms ≡ old ++ pushed
   pub free : IsTrue (list_all (λ (a : Atom). is_free a.constant) pushed)
   pub form : is_conjunction (form_of t) ≡ is_conjunction (form_of rest)
+  pub count : is_conjunction (form_of rest) ≡ true → commas (form_of t) ≡ length pushed + commas (form_of rest)
   pub term : term_of table t ≡ joined pushed (term_of table rest)
 
 -- one free constant more
@@ -77,10 +78,14 @@ free-last zs a hs h = all-append (λ (b : Atom). is_free b.constant) zs (a ∷ [
   one false h = h
 
 -- the form of a `,` with an atom to its left
-comma-form : (a b : Bool) → a ≡ true → is_conjunction (form_where (a && b) a_conjunction) ≡ b
-comma-form true true e = refl
-comma-form true false e = refl
-comma-form false b e = absurd (let bad = e in cc)
+comma-form : (n : ℕ) (a b : Bool) → a ≡ true → is_conjunction (form_where (a && b) (a_conjunction n)) ≡ b
+comma-form n true true e = refl
+comma-form n true false e = refl
+comma-form n false b e = absurd (let bad = e in cc)
+
+-- its commas, where a conjunction stands to its right
+comma-count : (n : ℕ) (a b : Bool) → a ≡ true → b ≡ true → commas (form_where (a && b) (a_conjunction n)) ≡ n
+comma-count n a b e f = rw (e, f) refl
 
 -- the atom to the left of a `,` was put last, and the right side is left
 pub goal-more : (table : List (List ℕ)) (old atoms new : List Atom) (t : AstTerm) (p : Place) (a b : AstTerm) (atom : Atom) → GoalRead table old atoms t (Op Comma p a b)
@@ -89,7 +94,11 @@ goal-more table old atoms new t p a b atom so is e = record {
   pushed = so.pushed ++ atom ∷ [];
   grown = e ∙ ap (λ (zs : List Atom). zs ++ atom ∷ []) so.grown ∙ append_assoc old so.pushed (atom ∷ []);
   free = free-last so.pushed atom so.free is.free;
-  form = so.form ∙ ap is_conjunction (form-comma p a b) ∙ comma-form (is_atom (form_of a)) (is_conjunction (form_of b)) is.form;
+  form = so.form ∙ ap is_conjunction (form-comma p a b) ∙ comma-form (suc (commas (form_of b))) (is_atom (form_of a)) (is_conjunction (form_of b)) is.form;
+  count = λ right.
+      let whole : is_conjunction (form_of (Op Comma p a b)) ≡ true = ap is_conjunction (form-comma p a b) ∙ comma-form (suc (commas (form_of b))) (is_atom (form_of a)) (is_conjunction (form_of b)) is.form ∙ right in
+      let one : commas (form_of (Op Comma p a b)) ≡ suc (commas (form_of b)) = ap commas (form-comma p a b) ∙ comma-count (suc (commas (form_of b))) (is_atom (form_of a)) (is_conjunction (form_of b)) is.form right in
+      omega (arith, so.count whole, one, length-append so.pushed (atom ∷ []));
   term = so.term ∙ ap (λ (s : Term). joined so.pushed s) (term-op table Comma p a b ∙ rw is.term refl) ∙ joined-more so.pushed atom (term_of table b);
 }
 
@@ -97,8 +106,15 @@ goal-more table old atoms new t p a b atom so is e = record {
 atom-is-conjunction : (f : Form) → is_atom f ≡ true → is_conjunction f ≡ true
 atom-is-conjunction a_word e = refl
 atom-is-conjunction an_application e = refl
-atom-is-conjunction a_conjunction e = refl
+atom-is-conjunction (a_conjunction n) e = refl
 atom-is-conjunction another e = absurd (let bad = e in cc)
+
+-- of no comma
+no-comma : (f : Form) → is_atom f ≡ true → commas f ≡ 0
+no-comma a_word e = refl
+no-comma an_application e = refl
+no-comma (a_conjunction n) e = absurd (let bad = e in cc)
+no-comma another e = absurd (let bad = e in cc)
 
 -- the atom that was left was put last
 pub goal-last : (table : List (List ℕ)) (old atoms new : List Atom) (t rest : AstTerm) (atom : Atom) (start end : ℕ) → GoalRead table old atoms t rest
@@ -111,8 +127,8 @@ goal-last table old atoms new t rest atom start end so is e es ee =
     let read : atoms_of new (record { start = start; end = end }) ≡ so.pushed ++ atom ∷ [] = ap (λ (zs : List Atom). take (end - start) zs) dropped ∙ take_all (end - start) (so.pushed ++ atom ∷ []) (omega (arith, size, more, es, ee)) in (
       record {
         form = so.form ∙ atom-is-conjunction (form_of rest) is.form;
+        count = omega (arith, size, es, ee, so.count (atom-is-conjunction (form_of rest) is.form), no-comma (form_of rest) is.form);
         term = ap conjunction read ∙ sym (joined-last so.pushed atom) ∙ ap (λ (s : Term). joined so.pushed s) (sym is.term) ∙ sym so.term;
-        some = omega (arith, size, es, ee);
         within = omega (arith, ee);
       },
       (so.pushed ++ atom ∷ [], grown, free-last so.pushed atom so.free is.free),

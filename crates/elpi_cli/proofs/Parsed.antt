@@ -1,5 +1,5 @@
 -- The meanings of parsed terms, form by form.
-use Rattle.std.proofs.Common.{◌≡◌, ℕ, ◌&&◌, List, [], ◌∷◌, ◌++◌, map, refl, ap, sym, ◌∙◌}
+use Rattle.std.proofs.Common.{◌≡◌, ℕ, suc, ◌&&◌, List, [], ◌∷◌, ◌++◌, map, refl, ap, sym, ◌∙◌}
 use Rattle.std.specs.Prelude.{flat_map}
 use Rattle.std.specs.List.{list_all}
 use Rattle.lp_parser.specs.declared.ast.Place.{Place}
@@ -12,7 +12,7 @@ use Rattle.ref_terms.specs.terms.Term as term
 use Rattle.ref_terms.specs.terms.Term.{Term, At, Con}
 use Rattle.ref_terms.specs.unification.Spine.{apply_all}
 use Rattle.elpi_cli.specs.Symbols.{interned, interned_all}
-use Rattle.elpi_cli.specs.Resolve.{words_at, words_of, term_at, term_of, operator_number, Form, an_application, a_conjunction, form_at, form_of, form_where, is_word, is_atom, is_conjunction}
+use Rattle.elpi_cli.specs.Resolve.{words_at, words_of, term_at, term_of, operator_number, Form, an_application, a_conjunction, form_at, form_of, form_where, is_word, is_atom, is_conjunction, commas}
 
 -- a fold of an application
 pub fold-app : (A : Type 0) (step : AstTerm-F A → A) (h : AstTerm) (ts : List AstTerm) → fold-AstTerm A step (App h ts) ≡ step (AstTerm-F.App (fold-AstTerm A step h) (map (fold-AstTerm A step) ts))
@@ -44,7 +44,7 @@ pub form-app : (h : AstTerm) (ts : List AstTerm) → form_of (App h ts) ≡ form
 form-app h ts = fold-app Form form_at h ts
 
 -- the form of a `,` with its sides
-pub form-comma : (p : Place) (a b : AstTerm) → form_of (Op Comma p a b) ≡ form_where (is_atom (form_of a) && is_conjunction (form_of b)) a_conjunction
+pub form-comma : (p : Place) (a b : AstTerm) → form_of (Op Comma p a b) ≡ form_where (is_atom (form_of a) && is_conjunction (form_of b)) (a_conjunction (suc (commas (form_of b))))
 form-comma p a b = fold-op Form form_at Comma p a b
 
 -- texts that are interned in two parts

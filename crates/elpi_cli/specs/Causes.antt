@@ -6,8 +6,7 @@ use Rattle.std.specs.declared.option.Option.{Option}
 use Rattle.lam_io.specs.declared.byte_text.FileEntry.{FileEntry}
 use Rattle.lam_io.specs.Reads.{bytes_of}
 use Rattle.lam_io.specs.Writes.{Appended}
-use Rattle.lp_parser.specs.declared.ast.AstGoal.{AstGoal}
-use Rattle.lp_parser.specs.declared.ast.Item.{Item}
+use Rattle.lp_parser.specs.declared.ast.AstTerm.{AstTerm}
 use Rattle.ref_terms.specs.declared.fault.Fault.{Fault}
 use Rattle.ref_terms.specs.unification.Unification.{unify}
 use Rattle.ref_terms.specs.search.Fault.{fault_name}
@@ -21,7 +20,8 @@ use Rattle.elpi_cli.specs.declared.status.Status.TheVariants.{ReadFault, WriteFa
 use Rattle.elpi_cli.specs.Words.{command}
 use Rattle.elpi_cli.specs.Output.{Output, line}
 use Rattle.elpi_cli.specs.Resolve.{program_of, query_of}
-use Rattle.elpi_cli.specs.Texts.{file_limit, files_read, items_of, items_read, goal_of}
+use Rattle.elpi_cli.specs.Texts.{file_limit, files_read, items_of, FileItems, all_items, items_read, goal_of}
+use Rattle.elpi_cli.specs.Built.{unbuilt_text, not_yet_line}
 use Rattle.elpi_cli.specs.Top.{word_at, file_names, IsReached}
 
 -- the last piece of the output is this line
@@ -74,38 +74,45 @@ pub record IsReady (words : List (List ℕ)) (told : List FileEntry) (steps answ
   pub query_is : query ≡ word_at words query_index
   pub files_are : files_read told (map (word_at words) file_indices) ≡ Ok files
 
--- the texts of these files are built, where the first has this number
-abbrev pub AreBuilt : (file : ℕ) → List FileEntry → Type 0
-AreBuilt file [] = ⊤
-AreBuilt file (f ∷ fs) = IsOk (items_of f.name file f.bytes) × AreBuilt (file + 1) fs
+-- tokens and grammar accept the texts of these files, where the first has this number
+abbrev pub AreAccepted : (file : ℕ) → List FileEntry → Type 0
+AreAccepted file [] = ⊤
+AreAccepted file (f ∷ fs) = IsOk (items_of f.name file f.bytes) × AreAccepted (file + 1) fs
 
--- a file's text is refused with this line, and those before it are built
+-- tokens or grammar refuse a file's text with this line, and accept those before it
 abbrev pub IsRefusedFile : List FileEntry → (last : List ℕ) → Type 0
 IsRefusedFile files last =
     (before : List FileEntry) × (f : FileEntry) × (after : List FileEntry) × (files ≡ before ++ f ∷ after)
-    × AreBuilt 0 before × (items_of f.name (length before) f.bytes ≡ Err last)
+    × AreAccepted 0 before × (items_of f.name (length before) f.bytes ≡ Err last)
 
--- the query's text is refused with this line, and all files are built
+-- tokens or grammar refuse the query's text with this line, and accept all files
 abbrev pub IsRefusedQuery : List FileEntry → (query last : List ℕ) → Type 0
-IsRefusedQuery files query last = AreBuilt 0 files × (goal_of query ≡ Err last)
+IsRefusedQuery files query last = AreAccepted 0 files × (goal_of query ≡ Err last)
+
+-- tokens and grammar accept all texts, and the first that isn't built has this line
+abbrev pub IsUnbuiltText : List FileEntry → (query last : List ℕ) → Type 0
+IsUnbuiltText files query last =
+    (read : List FileItems) × (goal : AstTerm) × (items_read 0 files ≡ Ok read) × (goal_of query ≡ Ok goal)
+    × (name : List ℕ) × (unbuilt_text read goal ≡ Some name) × (last ≡ not_yet_line name)
 
 -- all files are read, and the first text that is refused has this line
 abbrev pub IsRefused : List (List ℕ) → List FileEntry → (last : List ℕ) → Type 0
 IsRefused words told last =
     (steps : ℕ) × (answers : ℕ) × (query : List ℕ) × (files : List FileEntry) × IsReady words told steps answers query files
-    × (IsRefusedFile files last ⊎ IsRefusedQuery files query last)
+    × (IsRefusedFile files last ⊎ (IsRefusedQuery files query last ⊎ IsUnbuiltText files query last))
 
 -- the words and the files ask for the search of this query over this program, with at most so many steps and answers
 pub record Searches (words : List (List ℕ)) (told : List FileEntry) (program : Program) (query : Query) (steps answers : ℕ) : Type 0 where
   pub text : List ℕ
   pub files : List FileEntry
-  pub items : List Item
-  pub goal : AstGoal
+  pub read : List FileItems
+  pub goal : AstTerm
   pub ready : IsReady words told steps answers text files
-  pub items_are : items_read 0 files ≡ Ok items
+  pub read_is : items_read 0 files ≡ Ok read
   pub goal_is : goal_of text ≡ Ok goal
-  pub program_is : program ≡ program_of items goal
-  pub query_is : query ≡ query_of items goal
+  pub built : unbuilt_text read goal ≡ None
+  pub program_is : program ≡ program_of (all_items read) goal
+  pub query_is : query ≡ query_of (all_items read) goal
 
 -- the events of that search, and its answer limit
 abbrev pub Shows : List (List ℕ) → List FileEntry → (limit : ℕ) → List Event → Type 0

@@ -1,5 +1,5 @@
 -- What the conversion of parsed terms answers, with a table that begins with the reserved names.
-use Rattle.std.specs.Prelude.{◌≡◌, ℕ, ◌≤◌, ◌<◌, Bool, true, nat_le, List, ◌++◌, length, map, IsTrue}
+use Rattle.std.specs.Prelude.{◌≡◌, ℕ, ◌≤◌, ◌<◌, ◌+◌, Bool, true, false, [], nat_le, List, ◌++◌, length, map, IsTrue}
 use Rattle.std.specs.List.{list_all}
 use Rattle.lp_parser.specs.declared.ast.AstTerm.{AstTerm}
 use Rattle.lp_parser.specs.declared.ast.Item.{Item}
@@ -10,11 +10,16 @@ use Rattle.elpi_cli.specs.declared.horn.HornClause.{HornClause}
 use Rattle.elpi_cli.specs.declared.horn.Horn.{Horn}
 use Rattle.elpi_cli.specs.HornProgram.{atom_term, span_term, clause_term, is_free, IsProgram}
 use Rattle.elpi_cli.specs.Symbols.{reserved_names}
-use Rattle.elpi_cli.specs.Resolve.{term_of, term_clause, clauses_of, form_of, is_word, is_atom, is_conjunction, is_horn_clause, is_horn_item, are_built_over}
+use Rattle.elpi_cli.specs.Resolve.{words_of_item, term_of, term_clause, clauses_of, form_of, is_word, is_atom, is_conjunction, commas, is_goal, is_horn_clause, is_horn_item, are_built_over}
 
 -- the table begins with the reserved names
 abbrev pub BeginsReserved : (table : List (List ℕ)) → Type 0
 BeginsReserved table = (more : List (List ℕ)) × (table ≡ reserved_names ++ more)
+
+-- the item is no clause: it has no words that are read, and isn't built
+pub record IsNoClause (i : Item) : Type 0 where
+  pub words : words_of_item i ≡ []
+  pub form : is_horn_item i ≡ false
 
 -- the term is the word of this number
 pub record IsWordOf (table : List (List ℕ)) (t : AstTerm) (number : ℕ) : Type 0 where
@@ -48,6 +53,13 @@ Grows old new = (more : List Atom) × (new ≡ old ++ more) × IsTrue (list_all 
 -- the term is the conjunction of the atoms of this span, of which there is one at least
 pub record IsSpanOf (table : List (List ℕ)) (atoms : List Atom) (t : AstTerm) (span : Span) : Type 0 where
   pub form : is_conjunction (form_of t) ≡ true
+  pub count : span.start + commas (form_of t) + 1 ≡ span.end
+  pub term : span_term atoms span ≡ term_of table t
+  pub within : span.end ≤ length atoms
+
+-- the term is the goal of this span
+pub record IsGoalOf (table : List (List ℕ)) (atoms : List Atom) (t : AstTerm) (span : Span) : Type 0 where
+  pub form : is_goal (form_of t) ≡ true
   pub term : span_term atoms span ≡ term_of table t
   pub some : span.start < span.end
   pub within : span.end ≤ length atoms

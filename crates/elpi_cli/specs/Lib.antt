@@ -9,6 +9,7 @@ pub mod Symbols
 pub mod Resolve
 pub mod Positions
 pub mod Texts
+pub mod Built
 pub mod Top
 pub mod Causes
 pub mod Begins

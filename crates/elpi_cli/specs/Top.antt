@@ -1,5 +1,5 @@
 -- What a whole run writes: the reference for the top call.
-use Rattle.std.specs.Prelude.{◌≡◌, ℕ, ◌≤◌, List, [], ◌∷◌, ◌++◌, ◌⊎◌, map, length, Some, Ok, Err, ⊤, codes, slice_index_or, IsSome, IsSomeAnd}
+use Rattle.std.specs.Prelude.{◌≡◌, ℕ, ◌≤◌, List, [], ◌∷◌, ◌++◌, ◌⊎◌, map, length, None, Some, Ok, Err, ⊤, codes, slice_index_or, IsSome, IsSomeAnd}
 use Rattle.std.specs.Fmt.{decimal}
 use Rattle.std.specs.List.{concat}
 use Rattle.std.specs.declared.option.Option.{Option}
@@ -7,8 +7,7 @@ use Rattle.std.specs.declared.result.Result.{Result}
 use Rattle.lam_io.specs.declared.byte_text.FileEntry.{FileEntry}
 use Rattle.lam_io.specs.Reads.{bytes_of}
 use Rattle.lam_io.specs.Writes.{IsFront}
-use Rattle.lp_parser.specs.declared.ast.AstGoal.{AstGoal}
-use Rattle.lp_parser.specs.declared.ast.Item.{Item}
+use Rattle.lp_parser.specs.declared.ast.AstTerm.{AstTerm}
 use Rattle.elpi_cli.specs.declared.words.Command.{Command}
 use Rattle.elpi_cli.specs.declared.words.Command.TheVariants.{Run}
 use Rattle.elpi_cli.specs.declared.status.Status.{Status}
@@ -16,22 +15,28 @@ use Rattle.elpi_cli.specs.declared.status.Status.TheVariants.{Words, Refused, Re
 use Rattle.elpi_cli.specs.Words.{command}
 use Rattle.elpi_cli.specs.Output.{Output, line, line_only, searched}
 use Rattle.elpi_cli.specs.Resolve.{program_of, query_of}
-use Rattle.elpi_cli.specs.Texts.{file_limit, files_read, goal_of, items_read}
+use Rattle.elpi_cli.specs.Texts.{file_limit, files_read, goal_of, FileItems, all_items, items_read}
+use Rattle.elpi_cli.specs.Built.{unbuilt_text, not_yet_line}
 use Rattle.elpi_cli.specs.Written.{IsWholePieces}
 
 -- the word at an index
 abbrev pub word_at : List (List ℕ) → ℕ → List ℕ
 word_at words index = slice_index_or words index []
 
+-- the search of a goal over the items of the files, or the refusal of the text of this name, whose form isn't built
+abbrev pub built_output : (steps answers : ℕ) → List FileItems → AstTerm → Option (List ℕ) → Output
+built_output steps answers files goal (Some name) = line_only (not_yet_line name) Refused
+built_output steps answers files goal None = searched (program_of (all_items files) goal) (query_of (all_items files) goal) steps answers
+
 -- the query over the items of the files, or its refusal
-abbrev pub query_output : (steps answers : ℕ) → List Item → Result AstGoal (List ℕ) → Output
-query_output steps answers items (Err last) = line_only last Refused
-query_output steps answers items (Ok goal) = searched (program_of items goal) (query_of items goal) steps answers
+abbrev pub query_output : (steps answers : ℕ) → List FileItems → Result AstTerm (List ℕ) → Output
+query_output steps answers files (Err last) = line_only last Refused
+query_output steps answers files (Ok goal) = built_output steps answers files goal (unbuilt_text files goal)
 
 -- the run over the items of the files, or the refusal of a file's text
-abbrev pub texts_output : (steps answers : ℕ) → List ℕ → Result (List Item) Output → Output
+abbrev pub texts_output : (steps answers : ℕ) → List ℕ → Result (List FileItems) Output → Output
 texts_output steps answers query (Err refusal) = refusal
-texts_output steps answers query (Ok items) = query_output steps answers items (goal_of query)
+texts_output steps answers query (Ok files) = query_output steps answers files (goal_of query)
 
 -- the run over the files, or the refusal of a file
 abbrev pub files_output : (steps answers : ℕ) → List ℕ → Result (List FileEntry) Output → Output
@@ -48,8 +53,8 @@ abbrev pub command_output : List (List ℕ) → List FileEntry → Result Comman
 command_output words told (Err index) = line_only (codes "words: bad word at " ++ line (decimal index)) Words
 command_output words told (Ok (Run steps answers query files)) = files_output steps answers (word_at words query) (files_read told (map (word_at words) files))
 
--- The output of the words over these files: the words, then the files in word order, then their texts, then the query,
--- then the search. The first refusal decides.
+-- The output of the words over these files: the words, then the files in word order, then their texts by tokens and
+-- grammar, then the query's, then whether all are built, then the search. The first refusal decides.
 abbrev pub output : List (List ℕ) → List FileEntry → Output
 output words told = command_output words told (command words)
 

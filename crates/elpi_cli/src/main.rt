@@ -4,6 +4,7 @@
 //! standard output.
 #![tactic(auto)]
 
+mod built;
 mod horn;
 mod machine;
 mod positions;

@@ -4,17 +4,20 @@ ghost use Rattle.std.specs.List.{list_all};
 ghost use Rattle.elpi_cli.specs.HornSearch.{places_for};
 ghost use Rattle.elpi_cli.specs.HornProgram.{atom_term, span_term, clause_term, places_of, IsProgram};
 ghost use Rattle.elpi_cli.specs.Symbols.{interned_all};
-ghost use Rattle.elpi_cli.specs.Resolve.{words_of, words_of_items, term_of, form_of, is_word, is_atom, is_conjunction, is_horn_clause, is_horn_item, is_horn_query, head_agrees, heads_agree, are_built_over};
-ghost use Rattle.elpi_cli.specs.Conversion.{BeginsReserved, IsWordOf, are_words, AreWordsOf, IsAtomOf, Grows, IsSpanOf, IsFactOf, IsClauseOf, AreClausesOf, IsProgramOf};
+ghost use Rattle.elpi_cli.specs.Resolve.{words_of, words_of_items, term_of, form_of, is_word, is_atom, is_conjunction, is_goal, is_horn_clause, is_horn_item, is_horn_query, head_agrees, heads_agree, are_built_over};
+ghost use Rattle.elpi_cli.specs.Conversion.{IsNoClause, BeginsReserved, IsWordOf, are_words, AreWordsOf, IsAtomOf, Grows, IsSpanOf, IsGoalOf, IsFactOf, IsClauseOf, AreClausesOf, IsProgramOf};
 
 use crate::horn::{Atom, Horn, HornClause, Span};
 use crate::symbols::Symbols;
-use lp_parser::{Ast, AstGoal, AstTerm, Clause, Item, Operator};
+use lp_parser::{Ast, AstGoal, AstTerm, Clause, Item, Operator, WordKind};
 use ref_terms::Sequence;
 use std::alloc::{AllocError, Global};
 
 // The least number of a constant that isn't reserved.
 const FIRST_FREE: usize = 23;
+
+// How many atoms a body or a query has at most.
+const MAX_ATOMS: usize = 1001;
 
 // Puts the texts of a term's words last in the table, each where it is new.
 fn intern_term(term: &AstTerm, symbols: &mut Symbols) -> Result<(), AllocError>
@@ -35,17 +38,19 @@ fn intern_term(term: &AstTerm, symbols: &mut Symbols) -> Result<(), AllocError>
                 intern_term(argument, symbols)?;
             }
         }
-        AstTerm::Op(_, _, _, _) => {}
+        _ => {}
     }
     Ok(())
 }
 
-// The clause that an item is.
-fn clause_in(item: &Item) -> &Clause
-    ensures { item.now ≡ Item.Clause result.now }
+// The clause that an item is, if it is one.
+fn clause_in(item: &Item) -> Option<&Clause>
+    ensures { MatchOption result (IsNoClause item.now) (λ clause. item.now ≡ Item.Clause clause.now) }
 {
     match item {
-        Item::Clause(clause) => clause,
+        Item::Clause(clause) => Some(clause),
+        Item::Decl(_) => None,
+        Item::Block(_) => None,
     }
 }
 
@@ -54,7 +59,9 @@ fn intern_items(items: &[Item], symbols: &mut Symbols) -> Result<(), AllocError>
     ensures { OnOk result (symbols.new ≡ interned_all symbols.old (words_of_items items.now)) }
 {
     for item in items {
-        intern_term(&clause_in(item).term, symbols)?;
+        if let Some(clause) = clause_in(item) {
+            intern_term(&clause.term, symbols)?;
+        }
     }
     Ok(())
 }
@@ -65,7 +72,7 @@ fn read_word(term: &AstTerm, symbols: &Symbols) -> Option<usize>
     ensures { MatchOption result (is_word (form_of term.now) ≡ false) (IsWordOf symbols.now term.now) }
 {
     match term {
-        AstTerm::Word(_, text, _) => {
+        AstTerm::Word(WordKind::Name, text, _) => {
             let number = symbols.number_of(text.as_slice());
             if number < FIRST_FREE {
                 None
@@ -73,8 +80,7 @@ fn read_word(term: &AstTerm, symbols: &Symbols) -> Option<usize>
                 Some(number)
             }
         }
-        AstTerm::App(_, _) => None,
-        AstTerm::Op(_, _, _, _) => None,
+        _ => None,
     }
 }
 
@@ -120,12 +126,12 @@ fn read_atom(alloc: Global, term: &AstTerm, symbols: &Symbols) -> Result<Option<
             },
             None => Ok(None),
         },
-        AstTerm::Op(_, _, _, _) => Ok(None),
+        _ => Ok(None),
     }
 }
 
 // The span of a conjunction, whose atoms are put last.
-fn read_goal(
+fn read_conjunction(
     alloc: Global,
     term: &AstTerm,
     symbols: &Symbols,
@@ -133,14 +139,14 @@ fn read_goal(
 ) -> Result<Option<Span>, AllocError>
     requires reserved { BeginsReserved symbols.now }
     ensures grows { Grows atoms.old atoms.new }
-    ensures goal { IfOk result (λ answer. MatchOption answer (is_conjunction (form_of term.now) ≡ false) (IsSpanOf symbols.now atoms.new term.now)) }
+    ensures span { IfOk result (λ answer. MatchOption answer (is_conjunction (form_of term.now) ≡ false) (IsSpanOf symbols.now atoms.new term.now)) }
 {
     let start = atoms.len();
     let mut rest = term;
     while let AstTerm::Op(operator, _, left, right) = rest {
         match operator {
             Operator::Comma => {}
-            Operator::Implied => return Ok(None),
+            _ => return Ok(None),
         }
         match read_atom(alloc, left.get(), symbols)? {
             Some(atom) => atoms.push(atom)?,
@@ -155,6 +161,29 @@ fn read_goal(
                 start,
                 end: atoms.len(),
             }))
+        }
+        None => Ok(None),
+    }
+}
+
+// The span of a goal, whose atoms are put last.
+fn read_goal(
+    alloc: Global,
+    term: &AstTerm,
+    symbols: &Symbols,
+    atoms: &mut Sequence<Atom>,
+) -> Result<Option<Span>, AllocError>
+    requires reserved { BeginsReserved symbols.now }
+    ensures grows { Grows atoms.old atoms.new }
+    ensures goal { IfOk result (λ answer. MatchOption answer (is_goal (form_of term.now) ≡ false) (IsGoalOf symbols.now atoms.new term.now)) }
+{
+    match read_conjunction(alloc, term, symbols, atoms)? {
+        Some(span) => {
+            if span.end - span.start <= MAX_ATOMS {
+                Ok(Some(span))
+            } else {
+                Ok(None)
+            }
         }
         None => Ok(None),
     }
@@ -199,9 +228,7 @@ fn read_clause(
                 None => Ok(None),
             }
         }
-        AstTerm::Op(Operator::Comma, _, _, _) => Ok(None),
-        AstTerm::Word(_, _, _) => read_fact(alloc, term, symbols),
-        AstTerm::App(_, _) => read_fact(alloc, term, symbols),
+        _ => read_fact(alloc, term, symbols),
     }
 }
 
@@ -220,7 +247,10 @@ fn read_clauses(
         places: Sequence::new(alloc),
     };
     for item in items {
-        match read_clause(alloc, &clause_in(item).term, symbols, &mut horn.atoms)? {
+        let Some(clause) = clause_in(item) else {
+            return Ok(None);
+        };
+        match read_clause(alloc, &clause.term, symbols, &mut horn.atoms)? {
             Some(clause) => horn.clauses.push(clause)?,
             None => return Ok(None),
         }
@@ -322,7 +352,7 @@ pub fn resolve_query(
     ensures table { OnOk result (symbols.new ≡ interned_all symbols.old (words_of goal.now.term)) }
     ensures program { IsProgram horn.new }
     ensures clauses { map (clause_term horn.new.atoms) horn.new.clauses ≡ map (clause_term horn.old.atoms) horn.old.clauses }
-    ensures goal { IfOk result (λ answer. MatchOption answer (is_horn_query goal.now ≡ false) (λ span. (is_horn_query goal.now ≡ true) × (span_term horn.new.atoms span ≡ term_of symbols.new goal.now.term))) }
+    ensures goal { IfOk result (λ answer. MatchOption answer (is_horn_query goal.now.term ≡ false) (λ span. (is_horn_query goal.now.term ≡ true) × (span_term horn.new.atoms span ≡ term_of symbols.new goal.now.term))) }
 {
     intern_term(&goal.term, symbols)?;
     read_goal(alloc, &goal.term, symbols, &mut horn.atoms)

@@ -4,24 +4,25 @@ ghost use Rattle.std.specs.String.{string_bytes};
 ghost use Rattle.lam_io.specs.Faults.{Rose, HasCause};
 ghost use Rattle.lam_io.specs.Reads.{bytes_of};
 ghost use Rattle.lam_io.specs.Writes.{Appended};
-ghost use Rattle.lp_parser.specs.declared.ast.Item.{Item};
 ghost use Rattle.elpi_cli.specs.Words.{texts, command};
 ghost use Rattle.elpi_cli.specs.Written.{IsStop, Emits};
-ghost use Rattle.elpi_cli.specs.Texts.{with_file, with_items, items_of};
+ghost use Rattle.elpi_cli.specs.Texts.{file_of, with_file, with_items, items_of};
 ghost use Rattle.elpi_cli.specs.Output.{line_only};
 ghost use Rattle.elpi_cli.specs.Begins.{IsRefusal};
 ghost use Rattle.elpi_cli.specs.Top.{output, files_output, query_output, texts_output, word_at, known_files, IsRunOf, IsStatusOf};
 ghost use Rattle.elpi_cli.specs.Causes.{ComesBy, ComesExactlyBy, IsComplete, IsDone, IsNoAnswer, IsBadWord, IsRefused, IsFault, IsOutOfSteps, IsMissing, IsTooLong};
 ghost use Rattle.elpi_cli.specs.Prepared.{Prepares, Loads, prepared_output, status_of, IsFileStatus, IsTextStatus};
 
+use crate::built::{build_program, build_query};
 use crate::horn::Horn;
 use crate::machine::Machine;
 use crate::search::{answer_query, close};
 use crate::status::Status;
 use crate::symbols::Symbols;
-use crate::texts::{TextStop, read_program, read_query};
+use crate::texts::{TextStop, read_goal, read_items};
 use crate::words::{Command, WordsStop, read_words};
 use lam_io::{FileFail, Files, Sink};
+use lp_parser::{Ast, AstGoal};
 use std::alloc::{AllocError, Global};
 
 const FILE_LIMIT: usize = 4_194_304;
@@ -173,7 +174,7 @@ fn load<F: Files>(
     }
 }
 
-// Begins the search of a text that was read.
+// Reads the texts of the file and of the query, and begins the search.
 fn begin(
     alloc: Global,
     name: &str,
@@ -182,13 +183,34 @@ fn begin(
     answers: u64,
     text: &[u8],
 ) -> Result<Prepared, AllocError>
-    ensures prepared { IfOk result (λ prepared. texts_output steps answers query.now (with_items (items_of name.now 0 text.now) (Ok [])) ≡ prepared_output prepared) }
+    ensures prepared { IfOk result (λ prepared. texts_output steps answers query.now (with_items name.now (items_of name.now 0 text.now) (Ok [])) ≡ prepared_output prepared) }
+    ensures status { IfOk result (λ prepared. IsTextStatus (status_of prepared)) }
+{
+    match read_items(alloc, name, text) {
+        Err(stop) => refused(stop),
+        Ok(ast) => match read_goal(alloc, query.as_bytes()) {
+            Err(stop) => refused(stop),
+            Ok(goal) => begin_search(alloc, name, steps, answers, &ast, &goal),
+        },
+    }
+}
+
+// Begins the search of a goal over the items of the file of this name, where both are built.
+fn begin_search(
+    alloc: Global,
+    name: &str,
+    steps: u64,
+    answers: u64,
+    ast: &Ast,
+    goal: &AstGoal,
+) -> Result<Prepared, AllocError>
+    ensures prepared { IfOk result (λ prepared. query_output steps answers (file_of name.now ast.now ∷ []) (Ok goal.now.term) ≡ prepared_output prepared) }
     ensures status { IfOk result (λ prepared. IsTextStatus (status_of prepared)) }
 {
     let mut symbols = Symbols::new(alloc)?;
-    match read_program(alloc, name, text, &mut symbols) {
+    match build_program(alloc, name, ast, &mut symbols) {
         Err(stop) => refused(stop),
-        Ok(mut horn) => match read_query(alloc, query.as_bytes(), &mut symbols, &mut horn) {
+        Ok(mut horn) => match build_query(alloc, goal, &mut symbols, &mut horn) {
             Err(stop) => refused(stop),
             Ok(span) => Ok(Prepared::Search(Job {
                 machine: Machine::start(alloc, span)?,

@@ -9,7 +9,7 @@ use Rattle.elpi_cli.specs.declared.horn.Atom.{Atom}
 use Rattle.elpi_cli.specs.Resolve.{form_of, is_atom}
 use Rattle.elpi_cli.specs.Conversion.{IsAtomOf}
 use Rattle.elpi_cli.proofs.Converted.{GoalRead, goal-more, goal-last}
-use Rattle.elpi_cli.proofs.resolve.read_goal.Goals as goal
+use Rattle.elpi_cli.proofs.resolve.read_conjunction.Goals as goal
 
 pub loop-rest-preserved : goal.loop-rest-preserved
 loop-rest-preserved c =
@@ -25,8 +25,8 @@ loop-rest-preserved c =
     subst (λ (t : AstTerm). GoalRead table old c.push.new.self c.args.term.now t) (sym c.get-rest.ensures)
     (goal-more table old atoms c.push.new.self c.args.term.now op.field-1 op.left op.right c.in-Some.atom so is c.in_ok-push-in-Some.ensures.last)
 
-pub returns-in_ok-push-in-Some-2-clause-goal : goal.returns-in_ok-push-in-Some-2-clause-goal
-returns-in_ok-push-in-Some-2-clause-goal c =
+pub returns-in_ok-push-in-Some-2-clause-span : goal.returns-in_ok-push-in-Some-2-clause-goal
+returns-in_ok-push-in-Some-2-clause-span c =
     let table = c.args.symbols.now in
     let rest = c.loop-rest.rest.now in
     let is : IsAtomOf table rest c.in-Some-2.atom =
