@@ -1,6 +1,1 @@
 pub mod Levels
-pub mod TermComplete
-pub mod TermSound
-pub mod Items
-pub mod Readings
-pub mod Outcome
