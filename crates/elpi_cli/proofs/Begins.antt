@@ -14,7 +14,7 @@ use Rattle.lp_parser.specs.declared.ast.Item.{Item}
 use Rattle.lp_parser.specs.declared.error.ParseError.{ParseError}
 use Rattle.lp_parser.specs.declared.error.ParseError.TheVariants as error
 use Rattle.lp_parser.specs.Reading as parser
-use Rattle.lp_parser.specs.Reading.{Outcome, Accepted, Unexpected, Deep, IsRefusalOf}
+use Rattle.lp_parser.specs.Reading.{Outcome, Accepted, Unexpected, Deep, IsRefusal as IsRefusalOf}
 use Rattle.ref_terms.specs.search.Program.{Program, Query, Clause}
 use Rattle.elpi_cli.specs.declared.status.Status.TheVariants as Status
 use Rattle.elpi_cli.specs.declared.top.Prepared.{Prepared}
@@ -76,7 +76,7 @@ lexed-goal text lexed is same =
 
 -- the grammar refuses a text
 pub grammar-text : {A : Type 0} (whole : Result A (List ℕ)) (name : List ℕ) (lexed : Lexed) (outcome : Outcome A) (e : ParseError) (stop : TextStop) → whole ≡ where_accepted name lexed outcome
-    → IsRefusalOf outcome e → IsGrammarStop name lexed e stop → StopsAt whole stop
+    → IsRefusalOf e outcome → IsGrammarStop name lexed e stop → StopsAt whole stop
 grammar-text whole name lexed outcome (error.Unexpected index rule) stop is refused stops =
     stops-at whole (grammar_line name lexed index (grammar_name rule)) stop (is ∙ ap (where_accepted name lexed) refused) stops
 grammar-text whole name lexed outcome (error.Deep index) stop is refused stops =

@@ -1,5 +1,5 @@
 -- What is read of the files and of the query.
-use Rattle.std.specs.Prelude.{ℕ, ◌+◌, List, [], ◌∷◌, length, None, Some, Ok, Err, codes, nat_lt, if◌then◌else◌, slice_get, flat_map}
+use Rattle.std.specs.Prelude.{ℕ, ◌+◌, List, [], ◌∷◌, ◌++◌, length, None, Some, Ok, Err, codes, nat_lt, if◌then◌else◌, slice_get, flat_map}
 use Rattle.std.specs.Fmt.{decimal}
 use Rattle.std.specs.Option.{option_map_or}
 use Rattle.std.specs.declared.option.Option.{Option}

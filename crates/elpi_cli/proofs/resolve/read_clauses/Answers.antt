@@ -15,12 +15,12 @@ loop-item-preserved c =
     let table = c.args.symbols.now in
     let items = c.args.items.now in
     let old = c.loop-item.horn.atoms in
-    let parsed = c.clause_in.result.now in
+    let parsed = c.in-Some.clause.now in
     let rest = drop (c.loop-item.item-index + 1) items in
     let fits : c.loop-item.item-index < length items = omega (arith, c.loop-item-test.true) in
     let opened : drop c.loop-item.item-index items ≡ item.Clause parsed ∷ rest =
-    drop_more items c.loop-item.item-index c.item-item.result fits ∙ ap (λ (i : Item). i ∷ rest) (sym c.item-item.is ∙ c.clause_in.ensures) in
+    drop_more items c.loop-item.item-index c.item-item.result fits ∙ ap (λ (i : Item). i ∷ rest) (sym c.item-item.is ∙ c.in-Some.ensures) in
     let so : ClausesRead table items old c.loop-item.horn.clauses (item.Clause parsed ∷ rest) = subst (λ (left : List Item). ClausesRead table items old c.loop-item.horn.clauses left) opened c.loop-item.invariant in
-    let is : IsClauseOf table c.read_clause.new.atoms parsed.term c.in-Some.clause =
-    subst (λ (o : Option HornClause). MatchOption o (is_horn_clause parsed.term ≡ false) (IsClauseOf table c.read_clause.new.atoms parsed.term)) c.in-Some.is c.in_ok-clause.ensures.clause in
-    clauses-more table items old c.read_clause.new.atoms c.loop-item.horn.clauses c.push.new.self parsed rest c.in-Some.clause so c.read_clause.ensures.grows is c.in_ok-push-in-Some.ensures.last
+    let is : IsClauseOf table c.read_clause.new.atoms parsed.term c.in-Some-2.clause =
+    subst (λ (o : Option HornClause). MatchOption o (is_horn_clause parsed.term ≡ false) (IsClauseOf table c.read_clause.new.atoms parsed.term)) c.in-Some-2.is c.in_ok-clause.ensures.clause in
+    clauses-more table items old c.read_clause.new.atoms c.loop-item.horn.clauses c.push.new.self parsed rest c.in-Some-2.clause so c.read_clause.ensures.grows is c.in_ok-push-in-Some-2.ensures.last

@@ -25,7 +25,7 @@ loop-rest-preserved c =
     subst (λ (t : AstTerm). GoalRead table old c.push.new.self c.args.term.now t) (sym c.get-rest.ensures)
     (goal-more table old atoms c.push.new.self c.args.term.now op.field-1 op.left op.right c.in-Some.atom so is c.in_ok-push-in-Some.ensures.last)
 
-pub returns-in_ok-push-in-Some-2-clause-span : goal.returns-in_ok-push-in-Some-2-clause-goal
+pub returns-in_ok-push-in-Some-2-clause-span : goal.returns-in_ok-push-in-Some-2-clause-span
 returns-in_ok-push-in-Some-2-clause-span c =
     let table = c.args.symbols.now in
     let rest = c.loop-rest.rest.now in
