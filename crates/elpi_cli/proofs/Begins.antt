@@ -1,20 +1,10 @@
 -- From what the texts are read as to the output of the run.
-use Rattle.std.proofs.Common.{◌≡◌, ℕ, zero, suc, ◌<◌, ◌≤◌, length, List, [], ◌∷◌, ◌++◌, map, None, Some, Ok, Err, codes, IfOk, true, false, Bool, refl, ap, sym, subst, ◌∙◌, slice_get, arith}
+use Rattle.std.proofs.Common.{◌≡◌, ℕ, List, [], ◌∷◌, map, None, Some, Ok, Err, codes, IfOk, true, false, refl, ap, sym, subst, ◌∙◌}
 use Rattle.std.proofs.lemmas.List.{append-nil}
 use Rattle.std.specs.String.{string_bytes}
-use Rattle.std.specs.Option.{option_or}
-use Rattle.std.specs.declared.option.Option.{Option}
 use Rattle.std.specs.declared.result.Result.{Result}
-use Rattle.lp_lexer.specs.declared.error.LexError.{LexError}
-use Rattle.lp_lexer.specs.declared.error.LexError.TheVariants.{NotUtf8, BadChar, OpenString, OpenComment, LongName, WideNumber, Memory as NoMemory}
-use Rattle.lp_lexer.specs.declared.token.Token.{Token}
-use Rattle.lp_lexer.specs.Lexing.{Lexed, tokens_of, IsFault as IsLexFault}
 use Rattle.lp_parser.specs.declared.ast.AstTerm.{AstTerm}
 use Rattle.lp_parser.specs.declared.ast.Item.{Item}
-use Rattle.lp_parser.specs.declared.error.ParseError.{ParseError}
-use Rattle.lp_parser.specs.declared.error.ParseError.TheVariants as error
-use Rattle.lp_parser.specs.Reading as parser
-use Rattle.lp_parser.specs.Reading.{Outcome, Accepted, Unexpected, Deep, IsRefusal as IsRefusalOf}
 use Rattle.ref_terms.specs.search.Program.{Program, Query, Clause}
 use Rattle.elpi_cli.specs.declared.status.Status.TheVariants as Status
 use Rattle.elpi_cli.specs.declared.top.Prepared.{Prepared}
@@ -24,70 +14,16 @@ use Rattle.elpi_cli.specs.declared.texts.TextStop.TheVariants.{Refused, Memory}
 use Rattle.elpi_cli.specs.declared.horn.Span.{Span}
 use Rattle.elpi_cli.specs.declared.horn.Horn.{Horn}
 use Rattle.elpi_cli.specs.HornSearch.{running}
-use Rattle.elpi_cli.specs.HornProgram.{span_term, clause_term, program_term, query_term, IsProgram}
+use Rattle.elpi_cli.specs.HornProgram.{span_term, clause_term, program_term, query_term}
 use Rattle.elpi_cli.specs.HornOutput.{horn_events, horn_written}
 use Rattle.elpi_cli.specs.Output.{Output, line_only, searched}
 use Rattle.elpi_cli.specs.Symbols.{reserved_names, interned_all}
 use Rattle.elpi_cli.specs.Resolve.{words_of, words_of_items, term_of, clauses_of, are_built, are_built_over, is_horn_query, program_table, query_table, program_of, query_of}
-use Rattle.elpi_cli.specs.Texts.{token_line, grammar_name, grammar_line, where_accepted, lexed_as, items_by, items_of, goal_by, goal_of, FileItems, file_of, all_items, with_items}
-use Rattle.elpi_cli.specs.Built.{unbuilt_file, unbuilt_query, unbuilt_text, not_yet_line}
+use Rattle.elpi_cli.specs.Texts.{goal_of, FileItems, file_of, with_items}
+use Rattle.elpi_cli.specs.Built.{unbuilt_text, not_yet_line}
 use Rattle.elpi_cli.specs.Top.{built_output, query_output, texts_output}
-use Rattle.elpi_cli.specs.Conversion.{IsProgramOf}
-use Rattle.elpi_cli.specs.Begins.{IsRefusal, IsGrammarStop, StopsAt, BuildsProgram, IsQueryOf, BuildsQuery}
+use Rattle.elpi_cli.specs.Begins.{IsRefusal, StopsAt, BuildsProgram, BuildsQuery}
 use Rattle.elpi_cli.proofs.HornEvents.{same-output}
-
--- a line refuses a text that comes to it
-stops-at : {A : Type 0} (whole : Result A (List ℕ)) (last : List ℕ) (stop : TextStop) → whole ≡ Err last → IsRefusal last stop → StopsAt whole stop
-stops-at whole last (Refused text) is refusal = is ∙ ap (λ (l : List ℕ). Err l) (sym refusal)
-stops-at whole last Memory is refusal = tt
-
--- tokens that break a rule refuse a text
-fault-text : {A : Type 0} (whole : Result A (List ℕ)) (name text : List ℕ) (error : LexError) (stop : TextStop) → ((e : LexError) → tokens_of text ≡ Err e → whole ≡ Err (token_line name text e))
-    → IsLexFault (tokens_of text) error → IsRefusal (token_line name text error) stop → (error ≡ NoMemory → stop ≡ Memory) → StopsAt whole stop
-fault-text whole name text NoMemory stop so fault refusal memory = subst (StopsAt whole) (sym (memory refl)) tt
-fault-text whole name text (NotUtf8 at) stop so fault refusal memory = stops-at whole _ stop (so _ fault) refusal
-fault-text whole name text (BadChar at) stop so fault refusal memory = stops-at whole _ stop (so _ fault) refusal
-fault-text whole name text (OpenString at) stop so fault refusal memory = stops-at whole _ stop (so _ fault) refusal
-fault-text whole name text (OpenComment at) stop so fault refusal memory = stops-at whole _ stop (so _ fault) refusal
-fault-text whole name text (LongName at) stop so fault refusal memory = stops-at whole _ stop (so _ fault) refusal
-fault-text whole name text (WideNumber at) stop so fault refusal memory = stops-at whole _ stop (so _ fault) refusal
-
--- the text of a program
-pub fault-items : (name text : List ℕ) (file : ℕ) (error : LexError) (stop : TextStop) → IsLexFault (tokens_of text) error
-    → IsRefusal (token_line name text error) stop → (error ≡ NoMemory → stop ≡ Memory) → StopsAt (items_of name file text) stop
-fault-items name text file error stop fault refusal memory = fault-text (items_of name file text) name text error stop (λ e is. ap (items_by name file text) is) fault refusal memory
-
--- and that of a query
-pub fault-goal : (text : List ℕ) (error : LexError) (stop : TextStop) → IsLexFault (tokens_of text) error
-    → IsRefusal (token_line (codes "query") text error) stop → (error ≡ NoMemory → stop ≡ Memory) → StopsAt (goal_of text) stop
-fault-goal text error stop fault refusal memory = fault-text (goal_of text) (codes "query") text error stop (λ e is. ap (goal_by text) is) fault refusal memory
-
--- the items of a text by its tokens
-pub lexed-items : (name text : List ℕ) (file : ℕ) (lexed : Lexed) → tokens_of text ≡ Ok lexed.items → lexed.text ≡ text
-    → items_of name file text ≡ where_accepted name lexed (parser.program_of file lexed)
-lexed-items name text file lexed is same =
-    ap (items_by name file text) is ∙ ap (λ (t : List ℕ). where_accepted name (lexed_as t lexed.items) (parser.program_of file (lexed_as t lexed.items))) (sym same)
-
--- the goal of a text by its tokens
-pub lexed-goal : (text : List ℕ) (lexed : Lexed) → tokens_of text ≡ Ok lexed.items → lexed.text ≡ text
-    → goal_of text ≡ where_accepted (codes "query") lexed (parser.query_of lexed)
-lexed-goal text lexed is same =
-    ap (goal_by text) is ∙ ap (λ (t : List ℕ). where_accepted (codes "query") (lexed_as t lexed.items) (parser.query_of (lexed_as t lexed.items))) (sym same)
-
--- the grammar refuses a text
-pub grammar-text : {A : Type 0} (whole : Result A (List ℕ)) (name : List ℕ) (lexed : Lexed) (outcome : Outcome A) (e : ParseError) (stop : TextStop) → whole ≡ where_accepted name lexed outcome
-    → IsRefusalOf e outcome → IsGrammarStop name lexed e stop → StopsAt whole stop
-grammar-text whole name lexed outcome (error.Unexpected index rule) stop is refused stops =
-    stops-at whole (grammar_line name lexed index (grammar_name rule)) stop (is ∙ ap (where_accepted name lexed) refused) stops
-grammar-text whole name lexed outcome (error.Deep index) stop is refused stops =
-    stops-at whole (grammar_line name lexed index (codes "deep")) stop (is ∙ ap (where_accepted name lexed) refused) stops
-grammar-text whole name lexed outcome error.Memory stop is refused stops = subst (StopsAt whole) (sym stops) tt
-
--- no token stands behind the last one
-pub none-behind : {A : Type 0} (xs : List A) (i : ℕ) → length xs ≤ i → slice_get xs i ≡ None
-none-behind [] i behind = refl
-none-behind (x ∷ xs) zero behind = absurd (omega (arith, behind))
-none-behind (x ∷ xs) (suc i) behind = none-behind xs i (omega (arith, behind))
 
 -- the table of a program that was resolved
 whole-table : (ast : List Item) (before table : List (List ℕ)) → before ≡ reserved_names → table ≡ interned_all before (words_of_items ast) → table ≡ program_table ast
@@ -99,17 +35,6 @@ pub unbuilt-program : (name : List ℕ) (ast : List Item) (before table : List (
 unbuilt-program name ast before table (Refused last) begins tables fails refusal =
     (subst (λ (t : List (List ℕ)). are_built_over t ast ≡ false) (whole-table ast before table begins tables) fails, refusal)
 unbuilt-program name ast before table Memory begins tables fails refusal = tt
-
--- a program that is built
-pub built-program : (name : List ℕ) (ast : List Item) (before table : List (List ℕ)) (horn : Horn)
-    → before ≡ reserved_names → table ≡ interned_all before (words_of_items ast) → IsProgramOf table ast horn → BuildsProgram name ast table (Ok horn)
-built-program name ast before table horn begins tables found = (whole-table ast before table begins tables, found)
-
--- a query that isn't built
-pub unbuilt-goal : (g : AstTerm) (before table : List (List ℕ)) (old horn : Horn) (stop : TextStop)
-    → is_horn_query g ≡ false → IsRefusal (not_yet_line (codes "query")) stop → BuildsQuery g before table old horn (Err stop)
-unbuilt-goal g before table old horn (Refused last) fails refusal = (fails, refusal)
-unbuilt-goal g before table old horn Memory fails refusal = tt
 
 -- the one file
 abbrev pub one : (name : List ℕ) → List Item → List FileItems
@@ -190,12 +115,6 @@ refused-goal steps answers query name items ast goal (Refused text) r read same 
     line-writes _ (Refused text) (string_bytes text) r refl
     (ap (λ (i : Result (List Item) (List ℕ)). texts_output steps answers query (with_items name i (Ok []))) read ∙ ap (query_output steps answers (one name ast)) (same ∙ is)) prepares
 refused-goal steps answers query name items ast goal Memory r read same is prepares = memory-writes _ r prepares
-
--- where both are accepted
-pub accepted-texts : (steps answers : ℕ) (query name : List ℕ) (items : Result (List Item) (List ℕ)) (ast : List Item) (goal : AstTerm) → items ≡ Ok ast → goal_of query ≡ Ok goal
-    → texts_output steps answers query (with_items name items (Ok [])) ≡ query_output steps answers (one name ast) (Ok goal)
-accepted-texts steps answers query name items ast goal read is =
-    ap (λ (i : Result (List Item) (List ℕ)). texts_output steps answers query (with_items name i (Ok []))) read ∙ ap (query_output steps answers (one name ast)) is
 
 -- where the program isn't built
 pub refused-program : {E : Type 0} (steps answers : ℕ) (name : List ℕ) (ast : List Item) (goal : AstTerm) (table : List (List ℕ)) (stop : TextStop) (r : Result Prepared E) → BuildsProgram name ast table (Err stop) → Prepares stop r

@@ -1,10 +1,10 @@
 -- What a parsed program and a parsed query mean: their constants by number, and which of them are built.
-use Rattle.std.specs.Prelude.{ℕ, suc, Bool, true, false, ◌&&◌, if◌then◌else◌, nat_eq, nat_le, List, [], ◌∷◌, ◌++◌, length, map, flat_map, Option, Some, None}
+use Rattle.std.specs.Prelude.{ℕ, suc, Bool, true, false, ◌&&◌, if◌then◌else◌, nat_eq, nat_le, List, [], ◌∷◌, ◌++◌, length, flat_map, Option, Some, None}
 use Rattle.std.specs.List.{list_all}
 use Rattle.std.specs.Option.{option_map_or}
 use Rattle.lp_parser.specs.declared.ast.Operator.{Operator}
 use Rattle.lp_parser.specs.declared.ast.Operator.TheVariants.{Implied, Or, Comma, Implies, Equal, Is, Cons, Plus, Minus, Times}
-use Rattle.lp_parser.specs.declared.ast.WordKind.TheVariants.{Name, Var, Hole}
+use Rattle.lp_parser.specs.declared.ast.WordKind.TheVariants.{Name}
 use Rattle.lp_parser.specs.declared.ast.AstTerm.{AstTerm, out-AstTerm, fold-AstTerm}
 use Rattle.lp_parser.specs.declared.ast.AstTerm.TheOpen.{AstTerm-F}
 use Rattle.lp_parser.specs.declared.ast.Item.{Item}
