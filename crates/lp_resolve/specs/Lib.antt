@@ -1,1 +1,4 @@
+pub mod Heads
+pub mod Occurrences
 pub mod Preds
+pub mod StaticRules
