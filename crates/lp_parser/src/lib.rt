@@ -3,22 +3,16 @@
 
 mod ast;
 mod error;
-mod item;
-mod laws;
 mod lexeme;
-mod limits;
-mod parse;
 mod program;
 mod stack;
 mod state;
-mod term;
-#[cfg(test)]
-mod tests;
 mod token;
 
-pub use ast::{AstGoal, AstTerm, AstTerms, Clause, Item, Operator, Place, WordKind};
-pub use error::ParseError;
-pub use laws::{one_program, one_query};
-pub use lexeme::{Lexeme, Mark};
-pub use parse::{parse_program, parse_query};
+pub use ast::{
+    AstArg, AstArgs, AstGoal, AstTerm, AstTerms, AstType, AstTypes, Block, Clause, Decl, Item, Operator,
+    Place, Rule, RuleHead, RuleHeads, RuleList, Word, WordKind, WordPair, WordPairs, Words,
+};
+pub use error::{GrammarRule, ParseError};
+pub use lexeme::{Closer, Lexeme, Literal, Mark};
 pub use program::Ast;

@@ -2,7 +2,7 @@
 ghost use Rattle.std.specs.Prelude.{◌≡◌, [], ◌∷◌, ◌++◌, length, IfErr, OnOk, OnErr};
 
 use crate::ast::Item;
-use std::alloc::{AllocFailed, Global};
+use std::alloc::{AllocError, AllocFailed, Global};
 use std::marker::Model;
 
 /// A program, which contracts see as the list of its items.
@@ -41,6 +41,15 @@ impl Ast {
         ensures handed_back { IfErr result (λ failed. failed.value ≡ item) }
     {
         self.items.push(item)
+    }
+
+    /// Puts the items of `more` last. Where memory runs out the program stays, and the others are dropped.
+    pub fn append(&mut self, more: Ast) -> Result<(), AllocError>
+        ensures ok { OnOk result (self.new ≡ self.old ++ more) }
+        ensures err { OnErr result (self.new ≡ self.old) }
+    {
+        let Ast { mut items } = more;
+        self.items.append(&mut items)
     }
 
     /// The number of items.

@@ -1,44 +1,94 @@
 //! The lexemes of tokens.
 ghost use Rattle.std.specs.Prelude.{◌≡◌, ◌<◌, Some, length, slice_get, option_map, IfOk};
-ghost use Rattle.lp_parser.specs.Lexemes.{symbol_lexeme, lexeme_of};
+ghost use Rattle.lp_parser.specs.Lexemes.{keyword_lexeme, symbol_lexeme, meant, string_text, lexeme_of};
 
 use crate::ast::{Operator, Place, WordKind};
-use crate::lexeme::{Lexeme, Mark};
+use crate::lexeme::{Closer, Lexeme, Literal, Mark};
 use lam_io::ByteText;
-use lp_lexer::{Symbol, TokenKind, Tokens};
+use lp_lexer::{Keyword, Symbol, TokenKind, Tokens};
 use std::alloc::{AllocError, Global};
+
+/// The lexeme of a keyword at its place.
+fn keyword_lexeme(keyword: Keyword, place: Place) -> Lexeme
+    ensures { result ≡ keyword_lexeme keyword place }
+{
+    match keyword {
+        Keyword::Pi => Lexeme::Quantifier(true, place),
+        Keyword::Sigma => Lexeme::Quantifier(false, place),
+        Keyword::Pred => Lexeme::Mark(Mark::PredWord, place),
+        Keyword::Kind => Lexeme::Mark(Mark::KindWord, place),
+        Keyword::TypeWord => Lexeme::Mark(Mark::TypeWord, place),
+        Keyword::Constraint => Lexeme::Mark(Mark::ConstraintWord, place),
+        Keyword::Rule => Lexeme::Mark(Mark::RuleWord, place),
+        Keyword::Is => Lexeme::Infix(Operator::Is, place),
+    }
+}
 
 /// The lexeme of a symbol at its place.
 fn symbol_lexeme(symbol: Symbol, place: Place) -> Lexeme
     ensures { result ≡ symbol_lexeme symbol place }
 {
     match symbol {
+        Symbol::Equivalent => Lexeme::Mark(Mark::Equivalent, place),
         Symbol::Implied => Lexeme::Infix(Operator::Implied, place),
+        Symbol::Cons => Lexeme::Infix(Operator::Cons, place),
+        Symbol::Implies => Lexeme::Infix(Operator::Implies, place),
+        Symbol::Arrow => Lexeme::Mark(Mark::Arrow, place),
+        Symbol::Turnstile => Lexeme::Mark(Mark::Turnstile, place),
+        Symbol::OpenRound => Lexeme::OpenRound(place),
+        Symbol::CloseRound => Lexeme::Closer(Closer::Round, place),
+        Symbol::OpenSquare => Lexeme::OpenSquare(place),
+        Symbol::CloseSquare => Lexeme::Closer(Closer::Square, place),
+        Symbol::OpenCurly => Lexeme::Mark(Mark::OpenCurly, place),
+        Symbol::CloseCurly => Lexeme::Mark(Mark::CloseCurly, place),
+        Symbol::Bar => Lexeme::Closer(Closer::Bar, place),
+        Symbol::Lambda => Lexeme::Lambda(place),
         Symbol::Comma => Lexeme::Infix(Operator::Comma, place),
+        Symbol::Semicolon => Lexeme::Infix(Operator::Or, place),
         Symbol::Dot => Lexeme::Mark(Mark::Dot, place),
-        Symbol::Equivalent
-        | Symbol::Cons
-        | Symbol::Implies
-        | Symbol::Arrow
-        | Symbol::Turnstile
-        | Symbol::OpenRound
-        | Symbol::CloseRound
-        | Symbol::OpenSquare
-        | Symbol::CloseSquare
-        | Symbol::OpenCurly
-        | Symbol::CloseCurly
-        | Symbol::Bar
-        | Symbol::Lambda
-        | Symbol::Semicolon
-        | Symbol::Cut
-        | Symbol::Equal
-        | Symbol::Colon
-        | Symbol::Plus
-        | Symbol::Minus
-        | Symbol::Times
-        | Symbol::Greater
-        | Symbol::Tilde => Lexeme::Unbuilt(place),
+        Symbol::Cut => Lexeme::Literal(Literal::Cut, place),
+        Symbol::Equal => Lexeme::Infix(Operator::Equal, place),
+        Symbol::Colon => Lexeme::Mark(Mark::Colon, place),
+        Symbol::Plus => Lexeme::Infix(Operator::Plus, place),
+        Symbol::Minus => Lexeme::Infix(Operator::Minus, place),
+        Symbol::Times => Lexeme::Infix(Operator::Times, place),
+        Symbol::Greater => Lexeme::Mark(Mark::Greater, place),
+        Symbol::Tilde => Lexeme::Mark(Mark::Tilde, place),
     }
+}
+
+/// The character that is meant by one behind a `\` in a string.
+fn meant(character: u8) -> u8
+    ensures { result ≡ meant character }
+{
+    if character == b'n' {
+        b'\n'
+    } else if character == b't' {
+        b'\t'
+    } else {
+        character
+    }
+}
+
+/// The text of a string that begins with its opening quote, each escape replaced by its character.
+fn string_text(alloc: Global, token: &[u8]) -> Result<ByteText, AllocError>
+    ensures { IfOk result (λ text. text ≡ string_text token.now) }
+{
+    let mut text = ByteText::new(alloc);
+    let mut is_escaped = false;
+    for byte in token.iter().skip(1) {
+        if is_escaped {
+            text.push(meant(*byte))?;
+            is_escaped = false;
+        } else if *byte == b'"' {
+            return Ok(text);
+        } else if *byte == b'\\' {
+            is_escaped = true;
+        } else {
+            text.push(*byte)?;
+        }
+    }
+    Ok(text)
 }
 
 /// The lexeme of the token with that number, in the file with that number.
@@ -53,14 +103,20 @@ pub fn lexeme_at(
 {
     let token = tokens.get(index);
     let place = Place { file, at: token.at };
+    let text = tokens.text_of(index);
     match token.kind {
-        TokenKind::Name => {
-            let mut text = ByteText::new(alloc);
-            text.push_slice(tokens.text_of(index))?;
-            Ok(Lexeme::Word(WordKind::Name, text, place))
-        }
+        TokenKind::Name => word_lexeme(alloc, WordKind::Name, text, place),
+        TokenKind::Var => word_lexeme(alloc, WordKind::Var, text, place),
+        TokenKind::Hole => word_lexeme(alloc, WordKind::Hole, text, place),
+        TokenKind::Int(number) => Ok(Lexeme::Literal(Literal::Int(number), place)),
+        TokenKind::Str => Ok(Lexeme::Literal(Literal::Str(string_text(alloc, text)?), place)),
+        TokenKind::Key(keyword) => Ok(keyword_lexeme(keyword, place)),
         TokenKind::Sym(symbol) => Ok(symbol_lexeme(symbol, place)),
-        TokenKind::Var | TokenKind::Hole | TokenKind::Int(_) | TokenKind::Str | TokenKind::Key(_) =>
-            Ok(Lexeme::Unbuilt(place)),
     }
+}
+
+fn word_lexeme(alloc: Global, kind: WordKind, text: &[u8], place: Place) -> Result<Lexeme, AllocError>
+    ensures { IfOk result (λ it. it ≡ Lexeme.Word kind text.now place) }
+{
+    Ok(Lexeme::Word(kind, ByteText::from_slice(alloc, text)?, place))
 }

@@ -1,1 +1,2 @@
+pub mod Preds
 pub mod Symbols

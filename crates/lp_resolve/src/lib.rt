@@ -1,8 +1,18 @@
-//! From the parser's trees to programs and queries over numbered symbols, variables and bound names.
+//! Reads the trees of the parser as programs and queries over numbered symbols.
 #![tactic(auto)]
 
+mod checked;
+mod preds;
+mod program;
 mod query;
+mod static_rule;
 mod symbols;
 
+pub use checked::Checked;
+pub use preds::Preds;
+pub use program::{
+    ClausePlaces, ClauseTree, HeadTree, PairTree, Pred, PredLine, Program, RulePlaces, RuleTree,
+};
 pub use query::{Query, QueryVar, QueryVars};
+pub use static_rule::StaticRule;
 pub use symbols::Symbols;
