@@ -4,11 +4,15 @@
 mod checked;
 mod preds;
 mod program;
+mod query;
 mod static_rule;
+mod symbols;
 
 pub use checked::Checked;
 pub use preds::Preds;
 pub use program::{
     ClausePlaces, ClauseTree, HeadTree, PairTree, Pred, PredLine, Program, RulePlaces, RuleTree,
 };
+pub use query::{Query, QueryVar, QueryVars};
 pub use static_rule::StaticRule;
+pub use symbols::Symbols;
