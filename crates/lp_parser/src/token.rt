@@ -1,6 +1,6 @@
 //! The lexemes of tokens.
 ghost use Rattle.std.specs.Prelude.{◌≡◌, ◌<◌, Some, length, slice_get, option_map, IfOk};
-ghost use Rattle.lp_parser.specs.Lexemes.{keyword_lexeme, symbol_lexeme, meant, string_text, lexeme_of};
+ghost use Rattle.lp_parser.specs.Lexemes.{keyword_lexeme, symbol_lexeme, meant, unescaped, string_text, lexeme_of};
 
 use crate::ast::{Operator, Place, WordKind};
 use crate::lexeme::{Closer, Lexeme, Literal, Mark};
@@ -70,25 +70,35 @@ fn meant(character: u8) -> u8
     }
 }
 
-/// The text of a string that begins with its opening quote, each escape replaced by its character.
-fn string_text(alloc: Global, token: &[u8]) -> Result<ByteText, AllocError>
-    ensures { IfOk result (λ text. text ≡ string_text token.now) }
+/// The text of a string from here to its closing quote, each escape replaced by its character.
+fn unescape(alloc: Global, text: &[u8]) -> Result<ByteText, AllocError>
+    ensures { IfOk result (λ it. it ≡ unescaped text.now) }
 {
-    let mut text = ByteText::new(alloc);
+    let mut meaning = ByteText::new(alloc);
     let mut is_escaped = false;
-    for byte in token.iter().skip(1) {
+    for byte in text {
         if is_escaped {
-            text.push(meant(*byte))?;
+            meaning.push(meant(*byte))?;
             is_escaped = false;
         } else if *byte == b'"' {
-            return Ok(text);
+            return Ok(meaning);
         } else if *byte == b'\\' {
             is_escaped = true;
         } else {
-            text.push(*byte)?;
+            meaning.push(*byte)?;
         }
     }
-    Ok(text)
+    Ok(meaning)
+}
+
+/// The text of a string that begins with its opening quote.
+fn string_text(alloc: Global, token: &[u8]) -> Result<ByteText, AllocError>
+    ensures { IfOk result (λ text. text ≡ string_text token.now) }
+{
+    match token {
+        [] => Ok(ByteText::new(alloc)),
+        [_, text @ ..] => unescape(alloc, text),
+    }
 }
 
 /// The lexeme of the token with that number, in the file with that number.

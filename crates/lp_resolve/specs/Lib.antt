@@ -1,6 +1,14 @@
+pub mod Gathered
 pub mod Heads
 pub mod Occurrences
+pub mod Places
 pub mod Plain
 pub mod Preds
+pub mod ProgramReading
+pub mod ProgramTexts
+pub mod Reading
 pub mod StaticRules
 pub mod Symbols
+pub mod Texts
+pub mod Trees
+pub mod Variables

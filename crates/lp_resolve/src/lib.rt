@@ -7,6 +7,7 @@ mod program;
 mod query;
 mod static_rule;
 mod symbols;
+mod variable;
 
 pub use checked::Checked;
 pub use preds::Preds;
@@ -16,3 +17,4 @@ pub use program::{
 pub use query::{Query, QueryVar, QueryVars};
 pub use static_rule::StaticRule;
 pub use symbols::Symbols;
+pub use variable::Variable;
