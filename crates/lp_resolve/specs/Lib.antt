@@ -12,3 +12,4 @@ pub mod Symbols
 pub mod Texts
 pub mod Trees
 pub mod Variables
+pub mod WellFormed

@@ -15,6 +15,7 @@ use Rattle.lp_resolve.specs.declared.program.PairTree.{PairTree}
 use Rattle.lp_resolve.specs.declared.program.RuleTree.{RuleTree}
 use Rattle.lp_resolve.specs.Heads.{constant_of, args_of, variable_of}
 use Rattle.lp_resolve.specs.Occurrences.{Occurrence, occurrences, are_distinct_names}
+use Rattle.lp_resolve.specs.Places.{is_less_or}
 use Rattle.lp_resolve.specs.Preds.{pred_at}
 
 -- a broken rule, with the place where it is broken
@@ -159,10 +160,6 @@ number_of S5 = 5
 number_of S6 = 6
 number_of S7 = 7
 number_of S8 = 8
-
--- an earlier number, or an equal one and the rest
-abbrev pub is_less_or : ℕ → ℕ → Bool → Bool
-is_less_or a b rest = nat_lt a b || (nat_eq a b && rest)
 
 -- the order of breaches: by file, then by byte, then by the number of the rule
 abbrev pub is_before : Breach → Breach → Bool

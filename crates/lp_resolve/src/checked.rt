@@ -1,6 +1,7 @@
 //! Programs that keep all static rules.
 ghost use Rattle.std.specs.Prelude.{◌≡◌, None};
 ghost use Rattle.lp_resolve.specs.StaticRules.{first_breach};
+ghost use Rattle.lp_resolve.specs.WellFormed.{IsWellFormed};
 
 use crate::program::Program;
 use std::marker::Model;
@@ -15,6 +16,7 @@ impl Model for Checked {
     ghost use Rattle.std.specs.Prelude.{◌≡◌, None};
     ghost use Rattle.lp_resolve.specs.declared.program.Program.{Program};
     ghost use Rattle.lp_resolve.specs.StaticRules.{first_breach};
+    ghost use Rattle.lp_resolve.specs.WellFormed.{IsWellFormed};
 
     ghost Value = { Program };
 
@@ -25,12 +27,13 @@ impl Model for Checked {
 
     ghost view = { λ checked. checked.program };
 
-    ghost invariant = { λ checked. first_breach checked.program ≡ None };
+    ghost invariant = { λ checked. IsWellFormed checked.program × (first_breach checked.program ≡ None) };
 }
 
 impl Checked {
     /// Takes a program that keeps all static rules. Takes no memory.
     pub fn admit(program: Program) -> Checked
+        requires well_formed { IsWellFormed program }
         requires unbroken { first_breach program ≡ None }
         ensures { result ≡ program }
     {
@@ -40,6 +43,7 @@ impl Checked {
     /// The program. Takes no memory.
     pub fn program(&self) -> &Program
         ensures program { result.now ≡ self.now }
+        ensures well_formed { IsWellFormed self.now }
         ensures unbroken { first_breach self.now ≡ None }
     {
         &self.program

@@ -5,6 +5,7 @@ mod checked;
 mod preds;
 mod program;
 mod query;
+mod resolve;
 mod static_rule;
 mod symbols;
 mod variable;
@@ -15,6 +16,7 @@ pub use program::{
     ClausePlaces, ClauseTree, HeadTree, PairTree, Pred, PredLine, Program, RulePlaces, RuleTree,
 };
 pub use query::{Query, QueryVar, QueryVars};
+pub use resolve::resolve_program;
 pub use static_rule::StaticRule;
 pub use symbols::Symbols;
 pub use variable::Variable;
