@@ -2,12 +2,14 @@
 #![tactic(auto)]
 
 mod checked;
+mod gather;
 mod preds;
 mod program;
 mod query;
 mod resolve;
 mod static_rule;
 mod symbols;
+mod trees;
 mod variable;
 
 pub use checked::Checked;
