@@ -1,1 +1,2 @@
 pub mod SymbolPlaces
+pub mod OccurrenceLemmas

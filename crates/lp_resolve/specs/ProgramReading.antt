@@ -1,5 +1,5 @@
 -- What the items of a program are read as, over the table of the symbols' texts.
-use Rattle.std.specs.Prelude.{ℕ, Bool, true, false, nat_eq, List, [], ◌∷◌, ◌++◌, length, map, flat_map, take, drop, Option, Some, None, option_map}
+use Rattle.std.specs.Prelude.{ℕ, Bool, true, false, ◌&&◌, nat_eq, List, [], ◌∷◌, ◌++◌, length, map, flat_map, take, drop, Option, Some, None, option_map}
 use Rattle.std.specs.List.{filter_map}
 use Rattle.std.specs.Option.{option_map_or}
 use Rattle.lp_parser.specs.declared.ast.Place.{Place}
@@ -35,14 +35,18 @@ use Rattle.lp_resolve.specs.Gathered.{gathered}
 abbrev pub is_implied : Option ℕ → Bool
 is_implied c = option_map_or (nat_eq 6) c false
 
--- a tree with these arguments as head and body, where it is headed by `:-`
-abbrev pub parted : (implied : Bool) → Tree → List Tree → Tree × Option Tree
+-- a tree headed by `:-` with two arguments
+abbrev pub is_implication : Tree → Bool
+is_implication t = is_implied (constant_of t) && nat_eq 2 (length (args_of t))
+
+-- such a tree with these arguments as head and body; any other is a head alone
+abbrev pub parted : (implication : Bool) → Tree → List Tree → Tree × Option Tree
 parted true t (head ∷ body ∷ []) = (head, Some body)
 parted _ t args = (t, None)
 
--- the head and the body of a clause: `:-` stands between them, and any other tree is a head alone
+-- the head and the body of a clause
 abbrev pub head_and_body : Tree → Tree × Option Tree
-head_and_body t = parted (is_implied (constant_of t)) t (args_of t)
+head_and_body t = parted (is_implication t) t (args_of t)
 
 -- an item that was read, and the variables that were met up to its end
 pub record Read (A : Type 0) : Type 0 where

@@ -14,7 +14,7 @@ use Rattle.lp_resolve.specs.Trees.{IsFormed}
 
 -- a tree over so many variables, with no name bound around it
 abbrev pub IsFormedOver : (vars : ℕ) → Tree → Type 0
-IsFormedOver vars t = IsFormed 0 vars t
+IsFormedOver vars t = IsFormed vars 0 t
 
 -- a clause
 pub record IsClauseFormed (c : ClauseTree) : Type 0 where

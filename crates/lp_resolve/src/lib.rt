@@ -2,15 +2,19 @@
 #![tactic(auto)]
 
 mod checked;
+mod clauses;
 mod gather;
+mod occurrences;
 mod preds;
 mod program;
 mod query;
+mod read;
 mod resolve;
 mod static_rule;
 mod symbols;
 mod trees;
 mod variable;
+mod variables;
 
 pub use checked::Checked;
 pub use preds::Preds;
