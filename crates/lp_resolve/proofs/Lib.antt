@@ -1,2 +1,4 @@
 pub mod SymbolPlaces
 pub mod OccurrenceLemmas
+pub mod FormedLemmas
+pub mod TreeForms

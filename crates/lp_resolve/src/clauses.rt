@@ -7,6 +7,7 @@ ghost use Rattle.lp_resolve.specs.Occurrences.{occurrences};
 ghost use Rattle.lp_resolve.specs.ProgramReading.{is_implication, head_and_body, clause_of};
 ghost use Rattle.lp_resolve.specs.WellFormed.{IsClauseFormed};
 
+use crate::occurrences::count_variables;
 use crate::program::{ClausePlaces, ClauseTree};
 use crate::read::read_term;
 use crate::symbols::Symbols;
@@ -65,4 +66,46 @@ fn head_and_body(tree: Tree) -> (Tree, Option<Tree>)
             }
         }
     }
+}
+
+/// The clause that a clause of the text is read as.
+///
+/// Errors: want of memory.
+pub fn read_clause(
+    alloc: Global,
+    clause: &Clause,
+    symbols: &mut Symbols,
+) -> Result<ClauseTree, AllocError>
+    ensures begins { Begins symbols.old symbols.new }
+    ensures table { OnOk result (symbols.new ≡ interned_all symbols.old (texts_of clause.now.term)) }
+    ensures clause { IfOk result (λ it. (later : List (List ℕ)) → Begins symbols.new later → it ≡ clause_of later clause.now) }
+    ensures well_formed { IfOk result IsClauseFormed }
+{
+    let mut variables = Variables::new(alloc);
+    let tree = read_term(alloc, &clause.term, symbols, &mut variables)?;
+    let (head, body) = head_and_body(tree);
+    let vars = first_places(alloc, &variables, count_variables(&head)?)?;
+    Ok(ClauseTree {
+        vars: variables.len(),
+        head,
+        body,
+        places: ClausePlaces {
+            first: clause.place,
+            head: first_token(&clause.term),
+            vars,
+        },
+    })
+}
+
+// So many of the places that were met, from the first on.
+fn first_places(
+    alloc: Global,
+    variables: &Variables,
+    count: usize,
+) -> Result<Sequence<Place>, AllocError>
+    ensures { IfOk result (λ places. places ≡ take count variables.now.places) }
+{
+    let places = variables.places();
+    let count = if count < places.len() { count } else { places.len() };
+    Ok(Sequence::from_vec(Vec::from_slice(alloc, &places[..count])?))
 }
