@@ -1,1 +1,5 @@
+pub mod Arguments
+pub mod Replacing
 pub mod SymbolPlaces
+pub mod TreeForms
+pub mod TreesReplaced

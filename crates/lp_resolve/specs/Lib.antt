@@ -1,6 +1,12 @@
+pub mod Build
 pub mod Preds
+pub mod Queries
 pub mod Reading
+pub mod Reads
+pub mod Replacing
+pub mod Scopes
 pub mod Symbols
 pub mod Texts
+pub mod Treed
 pub mod Trees
 pub mod Variables

@@ -1,13 +1,17 @@
 //! Reads the trees of the parser as programs and queries over numbered symbols.
 #![tactic(auto)]
 
+mod build;
 mod checked;
 mod preds;
 mod program;
 mod query;
+mod read;
+mod scope;
 mod static_rule;
 mod symbols;
 mod variable;
+mod variables;
 
 pub use checked::Checked;
 pub use preds::Preds;
@@ -15,6 +19,7 @@ pub use program::{
     ClausePlaces, ClauseTree, HeadTree, PairTree, Pred, PredLine, Program, RulePlaces, RuleTree,
 };
 pub use query::{Query, QueryVar, QueryVars};
+pub use read::resolve_query;
 pub use static_rule::StaticRule;
 pub use symbols::Symbols;
 pub use variable::Variable;
