@@ -1,4 +1,8 @@
-pub mod SymbolPlaces
-pub mod OccurrenceLemmas
+pub mod Arguments
+pub mod BeginsLemmas
 pub mod FormedLemmas
+pub mod OccurrenceLemmas
+pub mod Replacing
+pub mod SymbolPlaces
 pub mod TreeForms
+pub mod TreesReplaced

@@ -25,7 +25,7 @@ use Rattle.lp_resolve.specs.declared.program.RuleTree.{RuleTree}
 use Rattle.lp_resolve.specs.Symbols.{number_of}
 use Rattle.lp_resolve.specs.Variables.{Met, nothing_met, number_in, met_word}
 use Rattle.lp_resolve.specs.Reading.{reading}
-use Rattle.lp_resolve.specs.Trees.{tree_of}
+use Rattle.lp_resolve.specs.Treed.{tree_of}
 use Rattle.lp_resolve.specs.Heads.{constant_of, args_of}
 use Rattle.lp_resolve.specs.Occurrences.{occurrences}
 use Rattle.lp_resolve.specs.Places.{first_token}

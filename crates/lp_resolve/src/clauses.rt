@@ -9,7 +9,7 @@ ghost use Rattle.lp_resolve.specs.WellFormed.{IsClauseFormed};
 
 use crate::occurrences::count_variables;
 use crate::program::{ClausePlaces, ClauseTree};
-use crate::read::read_term;
+use crate::parts::read_part;
 use crate::symbols::Symbols;
 use crate::trees::{arity_of, constant_of};
 use crate::variables::Variables;
@@ -82,7 +82,7 @@ pub fn read_clause(
     ensures well_formed { IfOk result IsClauseFormed }
 {
     let mut variables = Variables::new(alloc);
-    let tree = read_term(alloc, &clause.term, symbols, &mut variables)?;
+    let tree = read_part(alloc, &clause.term, symbols, &mut variables)?;
     let (head, body) = head_and_body(tree);
     let vars = first_places(alloc, &variables, count_variables(&head)?)?;
     Ok(ClauseTree {

@@ -1,15 +1,18 @@
 //! Reads the trees of the parser as programs and queries over numbered symbols.
 #![tactic(auto)]
 
+mod build;
 mod checked;
 mod clauses;
 mod gather;
 mod occurrences;
+mod parts;
 mod preds;
 mod program;
 mod query;
 mod read;
 mod resolve;
+mod scope;
 mod static_rule;
 mod symbols;
 mod trees;
@@ -23,6 +26,7 @@ pub use program::{
 };
 pub use query::{Query, QueryVar, QueryVars};
 pub use resolve::resolve_program;
+pub use read::resolve_query;
 pub use static_rule::StaticRule;
 pub use symbols::Symbols;
 pub use variable::Variable;
