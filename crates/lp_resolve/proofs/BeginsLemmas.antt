@@ -1,5 +1,6 @@
 -- Tables that begin with others.
 use Rattle.std.proofs.Common.{◌≡◌, ◌∙◌, ℕ, suc, ◌+◌, Bool, true, false, not, ◌||◌, cond, List, [], ◌∷◌, ◌++◌, append-nil, append_assoc, refl, ap, sym}
+use Rattle.std.proofs.lemmas.List.Folds.{list_any-append}
 use Rattle.std.specs.List.{list_any, position_or_len}
 use Rattle.std.specs.Str.{bytes_eq}
 use Rattle.std.specs.Cmp.Lexicographic.{nat_list_eq_equiv}
@@ -14,26 +15,26 @@ begins-refl xs = record { more = []; is = sym (append-nil xs) }
 pub begins-trans : {A : Type 0} {xs ys zs : List A} → Begins xs ys → Begins ys zs → Begins xs zs
 begins-trans {xs = xs} b c = record { more = b.more ++ c.more; is = c.is ∙ ap (λ l. l ++ c.more) b.is ∙ append_assoc xs b.more c.more }
 
+-- one more in front
+place-step : (b : Bool) (any : Bool) (m n : ℕ) → (b || any) ≡ true → (any ≡ true → m ≡ n) → cond (not b) (1 + m) 0 ≡ cond (not b) (1 + n) 0
+place-step true any m n e rest = refl
+place-step false any m n e rest = ap (λ k. 1 + k) (rest e)
+
 -- the first place of what stands in a front
 place-front : {A : Type 0} (p : A → Bool) (xs ys : List A) → list_any p xs ≡ true → position_or_len p (xs ++ ys) ≡ position_or_len p xs
 place-front p [] ys any = absurd (cc)
-place-front p (x ∷ xs) ys any = at (p x) any where
-  at : (b : Bool) → (b || list_any p xs) ≡ true → cond (not b) (1 + position_or_len p (xs ++ ys)) 0 ≡ cond (not b) (1 + position_or_len p xs) 0
-  at true e = refl
-  at false e = ap (λ n. 1 + n) (place-front p xs ys e)
+place-front p (x ∷ xs) ys any =
+    place-step (p x) (list_any p xs) (position_or_len p (xs ++ ys)) (position_or_len p xs) any (λ e. place-front p xs ys e)
 
 -- a text that is interned is there
 interned-there : (table : List (List ℕ)) (text : List ℕ) → list_any (bytes_eq text) (interned table text) ≡ true
 interned-there table text = at (list_any (bytes_eq text) table) refl where
-  last : (xs : List (List ℕ)) → list_any (bytes_eq text) (xs ++ text ∷ []) ≡ true
-  last [] = ap (λ b. b || false) (nat_list_eq_equiv.refl text)
-  last (x ∷ xs) = cases (bytes_eq text x) where
-    cases : (b : Bool) → (b || list_any (bytes_eq text) (xs ++ text ∷ [])) ≡ true
-    cases true = refl
-    cases false = last xs
   at : (b : Bool) → list_any (bytes_eq text) table ≡ b → list_any (bytes_eq text) (interned table text) ≡ true
   at true e = ap (λ t. list_any (bytes_eq text) t) (interned-old table text e) ∙ e
-  at false e = ap (λ t. list_any (bytes_eq text) t) (interned-new table text e) ∙ last table
+  at false e =
+      ap (λ t. list_any (bytes_eq text) t) (interned-new table text e)
+      ∙ list_any-append (bytes_eq text) table (text ∷ [])
+      ∙ rw (e, nat_list_eq_equiv.refl text) refl
 
 -- an interned text keeps its number in each later table
 pub number-later : (table : List (List ℕ)) (text : List ℕ) (later : List (List ℕ)) → Begins (interned table text) later

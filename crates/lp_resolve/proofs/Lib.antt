@@ -1,5 +1,6 @@
 pub mod Arguments
 pub mod BeginsLemmas
+pub mod ClauseLemmas
 pub mod FormedLemmas
 pub mod OccurrenceLemmas
 pub mod Replacing

@@ -72,6 +72,15 @@ pub record PlacedRuleHead : Type 0 where
   pub place : Place
   pub vars : List Place
 
+-- a clause whose tree has this head and body; the head has the first of the variables
+abbrev pub clause_with : Clause → (met : Met) → Tree × Option Tree → ClauseTree
+clause_with c met parts = record {
+    vars = length met.names;
+    head = parts.0;
+    body = parts.1;
+    places = record { first = c.place; head = first_token c.term; vars = take (length (occurrences parts.0)) met.places }
+  }
+
 module _ (table : List (List ℕ)) where
   -- the symbol of a word
   abbrev pub symbol_of : Word → Sym
@@ -91,15 +100,6 @@ module _ (table : List (List ℕ)) where
   line_of (KindDecl names arrows) = None
   line_of (TypeDecl names ty) = None
   line_of (PredDecl name args) = Some (record { name = symbol_of name; place = name.place; inputs = map (λ a. a.input) args })
-
-  -- a clause whose tree has this head and body; the head has the first of the variables
-  abbrev pub clause_with : Clause → (met : Met) → Tree × Option Tree → ClauseTree
-  clause_with c met parts = record {
-      vars = length met.names;
-      head = parts.0;
-      body = parts.1;
-      places = record { first = c.place; head = first_token c.term; vars = take (length (occurrences parts.0)) met.places }
-    }
 
   -- a clause
   abbrev pub clause_of : Clause → ClauseTree

@@ -4,7 +4,7 @@ ghost use Rattle.lp_resolve.specs.Symbols.{Begins, interned_all};
 ghost use Rattle.lp_resolve.specs.Texts.{texts_of};
 ghost use Rattle.lp_resolve.specs.Places.{first_token};
 ghost use Rattle.lp_resolve.specs.Occurrences.{occurrences};
-ghost use Rattle.lp_resolve.specs.ProgramReading.{is_implication, head_and_body, clause_of};
+ghost use Rattle.lp_resolve.specs.ProgramReading.{is_implication, head_and_body, clause_with, clause_of};
 ghost use Rattle.lp_resolve.specs.WellFormed.{IsClauseFormed};
 
 use crate::occurrences::count_variables;
@@ -83,8 +83,21 @@ pub fn read_clause(
 {
     let mut variables = Variables::new(alloc);
     let tree = read_part(alloc, &clause.term, symbols, &mut variables)?;
+    let it = clause_with(alloc, clause, tree, &variables)?;
+    Ok(it)
+}
+
+// The clause whose tree and variables these are.
+fn clause_with(
+    alloc: Global,
+    clause: &Clause,
+    tree: Tree,
+    variables: &Variables,
+) -> Result<ClauseTree, AllocError>
+    ensures { IfOk result (λ it. it ≡ clause_with clause.now variables.now (head_and_body tree)) }
+{
     let (head, body) = head_and_body(tree);
-    let vars = first_places(alloc, &variables, count_variables(&head)?)?;
+    let vars = first_places(alloc, variables, count_variables(&head)?)?;
     Ok(ClauseTree {
         vars: variables.len(),
         head,
