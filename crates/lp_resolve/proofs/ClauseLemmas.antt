@@ -8,17 +8,16 @@ use Rattle.lp_resolve.specs.Treed.{tree_of}
 use Rattle.lp_resolve.specs.Trees.{IsFormed}
 use Rattle.lp_resolve.specs.Occurrences.{occurrences}
 use Rattle.lp_resolve.specs.WellFormed.{IsClauseFormed}
-use Rattle.lp_resolve.specs.ProgramReading.{head_and_body, clause_with, clause_of}
+use Rattle.lp_resolve.specs.ProgramReading.{head_and_body, read_tree, clause_with, clause_of}
+use Rattle.lp_resolve.proofs.ReadingFacts.{reading-formed, reading-places}
 use Rattle.lp_resolve.proofs.FormedLemmas.{is_parted, formed-parted, places-parted}
 
 -- a clause whose tree and variables were read is the clause of the text
 pub clause_with-read : (later : List (List ℕ)) (c : Clause) (start : Met) (tree : Tree) (met : Met) → start ≡ nothing_met
-    → tree ≡ tree_of (reading later c.term [] start).term → met ≡ (reading later c.term [] start).met
-    → clause_with c met (head_and_body tree) ≡ clause_of later c
-clause_with-read later c start tree met none e m =
-    ap (λ t. clause_with c met (head_and_body t)) e
-    ∙ ap (λ k. clause_with c k (head_and_body (tree_of (reading later c.term [] start).term))) m
-    ∙ ap (λ s. clause_with c (reading later c.term [] s).met (head_and_body (tree_of (reading later c.term [] s).term))) none
+    → read_tree later start c.term ≡ record { value = tree; met = met } → clause_with c met (head_and_body tree) ≡ clause_of later c
+clause_with-read later c start tree met none e =
+    sym (ap (λ r. clause_with c r.met (head_and_body r.value)) e)
+    ∙ ap (λ s. clause_with c (read_tree later s c.term).met (head_and_body (read_tree later s c.term).value)) none
 
 -- it is well formed
 pub clause_with-formed : (c : Clause) (tree : Tree) (met : Met) → IsFormed (length met.names) 0 tree → length (occurrences tree) ≤ length met.places
@@ -31,3 +30,10 @@ clause_with-formed c tree met formed enough =
       body = parts.1;
       var_places = simp length-take (omega arith)
     }
+
+-- a clause of the text is well formed
+pub clause_of-formed : (table : List (List ℕ)) (c : Clause) → IsClauseFormed (clause_of table c)
+clause_of-formed table c =
+    let places = reading-places table c.term nothing_met in
+    let enough : length (occurrences (tree_of (reading table c.term [] nothing_met).term)) ≤ length (reading table c.term [] nothing_met).met.places = omega arith in
+    clause_with-formed c (tree_of (reading table c.term [] nothing_met).term) (reading table c.term [] nothing_met).met (reading-formed table c.term nothing_met) enough

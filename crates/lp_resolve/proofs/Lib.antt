@@ -3,7 +3,9 @@ pub mod BeginsLemmas
 pub mod ClauseLemmas
 pub mod FormedLemmas
 pub mod OccurrenceLemmas
+pub mod ReadsAsLemmas
 pub mod Replacing
+pub mod RuleLemmas
 pub mod SymbolPlaces
 pub mod TreeForms
 pub mod TreesReplaced

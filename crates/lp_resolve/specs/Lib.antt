@@ -10,6 +10,7 @@ pub mod ProgramTexts
 pub mod Queries
 pub mod Reading
 pub mod Reads
+pub mod ReadsAs
 pub mod Replacing
 pub mod Scopes
 pub mod StaticRules

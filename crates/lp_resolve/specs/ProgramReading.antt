@@ -22,6 +22,8 @@ use Rattle.lp_resolve.specs.declared.program.ClauseTree.{ClauseTree}
 use Rattle.lp_resolve.specs.declared.program.HeadTree.{HeadTree}
 use Rattle.lp_resolve.specs.declared.program.PairTree.{PairTree}
 use Rattle.lp_resolve.specs.declared.program.RuleTree.{RuleTree}
+use Rattle.lp_resolve.specs.declared.placed.PlacedHead.{PlacedHead}
+use Rattle.lp_resolve.specs.declared.placed.RuleParts.{RuleParts}
 use Rattle.lp_resolve.specs.Symbols.{number_of}
 use Rattle.lp_resolve.specs.Variables.{Met, nothing_met, number_in, met_word}
 use Rattle.lp_resolve.specs.Reading.{reading}
@@ -66,12 +68,6 @@ abbrev pub read_option : {A B : Type 0} → (Met → A → Read B) → Met → O
 read_option read met None = record { value = None; met = met }
 read_option read met (Some x) = let it = read met x in record { value = Some it.value; met = it.met }
 
--- a head of a rule with the places of it and of its variables
-pub record PlacedRuleHead : Type 0 where
-  pub head : HeadTree
-  pub place : Place
-  pub vars : List Place
-
 -- a clause whose tree has this head and body; the head has the first of the variables
 abbrev pub clause_with : Clause → (met : Met) → Tree × Option Tree → ClauseTree
 clause_with c met parts = record {
@@ -79,6 +75,25 @@ clause_with c met parts = record {
     head = parts.0;
     body = parts.1;
     places = record { first = c.place; head = first_token c.term; vars = take (length (occurrences parts.0)) met.places }
+  }
+
+-- a rule of these parts
+abbrev pub rule_with : List Sym → Rule → RuleParts → (met : Met) → RuleTree
+rule_with names r parts met = record {
+    names = names;
+    vars = length met.names;
+    kept = map (λ h. h.head) parts.kept;
+    removed = map (λ h. h.head) parts.removed;
+    pairs = parts.pairs;
+    tests = parts.tests;
+    body = parts.body;
+    places = record {
+      rule = r.place;
+      heads = map (λ h. h.place) parts.kept ++ map (λ h. h.place) parts.removed;
+      vars = map (λ h. h.vars) parts.kept ++ map (λ h. h.vars) parts.removed;
+      pairs = map (λ p. p.left.place) r.pairs;
+      tests = map first_token r.tests
+    }
   }
 
 module _ (table : List (List ℕ)) where
@@ -106,7 +121,7 @@ module _ (table : List (List ℕ)) where
   clause_of c = let it = read_tree nothing_met c.term in clause_with c it.met (head_and_body it.value)
 
   -- a head of a rule; its context stands before its goal
-  abbrev pub read_head : Met → RuleHead → Read PlacedRuleHead
+  abbrev pub read_head : Met → RuleHead → Read PlacedHead
   read_head met h =
       let context = read_option read_variable met h.context in
       let goal = read_tree context.met h.goal in
@@ -126,31 +141,22 @@ module _ (table : List (List ℕ)) where
       let right = read_variable left.met p.right in
       record { value = record { left = left.value; right = right.value }; met = right.met }
 
-  -- a rule of a block with these names, read from the left
-  abbrev pub rule_of : List Word → Rule → RuleTree
-  rule_of names r =
-      let kept = read_all read_head nothing_met r.kept in
+  -- the parts of a rule, from the left
+  abbrev pub read_parts : Met → Rule → Read RuleParts
+  read_parts met r =
+      let kept = read_all read_head met r.kept in
       let removed = read_all read_head kept.met r.removed in
       let pairs = read_all read_pair removed.met r.pairs in
       let tests = read_all read_tree pairs.met r.tests in
       let body = read_option read_tree tests.met r.body in
-      let heads = kept.value ++ removed.value in
       record {
-        names = map symbol_of names;
-        vars = length body.met.names;
-        kept = map (λ h. h.head) kept.value;
-        removed = map (λ h. h.head) removed.value;
-        pairs = pairs.value;
-        tests = tests.value;
-        body = body.value;
-        places = record {
-          rule = r.place;
-          heads = map (λ h. h.place) heads;
-          vars = map (λ h. h.vars) heads;
-          pairs = map (λ p. p.left.place) r.pairs;
-          tests = map first_token r.tests
-        }
+        value = record { kept = kept.value; removed = removed.value; pairs = pairs.value; tests = tests.value; body = body.value };
+        met = body.met
       }
+
+  -- a rule of a block with these names
+  abbrev pub rule_of : List Sym → Rule → RuleTree
+  rule_of names r = let it = read_parts nothing_met r in rule_with names r it.value it.met
 
   -- the declaration of a predicate that an item is
   abbrev pub item_line : Item → Option PredLine
@@ -168,7 +174,7 @@ module _ (table : List (List ℕ)) where
   abbrev pub item_rules : Item → List RuleTree
   item_rules (item.Decl d) = []
   item_rules (item.Clause c) = []
-  item_rules (item.Block b) = map (rule_of b.names) b.rules
+  item_rules (item.Block b) = map (rule_of (map symbol_of b.names)) b.rules
 
   -- the program that the items are read as
   abbrev pub program_of : List Item → Program

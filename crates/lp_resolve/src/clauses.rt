@@ -5,7 +5,6 @@ ghost use Rattle.lp_resolve.specs.Texts.{texts_of};
 ghost use Rattle.lp_resolve.specs.Places.{first_token};
 ghost use Rattle.lp_resolve.specs.Occurrences.{occurrences};
 ghost use Rattle.lp_resolve.specs.ProgramReading.{is_implication, head_and_body, clause_with, clause_of};
-ghost use Rattle.lp_resolve.specs.WellFormed.{IsClauseFormed};
 
 use crate::occurrences::count_variables;
 use crate::program::{ClausePlaces, ClauseTree};
@@ -79,7 +78,6 @@ pub fn read_clause(
     ensures begins { Begins symbols.old symbols.new }
     ensures table { OnOk result (symbols.new ≡ interned_all symbols.old (texts_of clause.now.term)) }
     ensures clause { IfOk result (λ it. (later : List (List ℕ)) → Begins symbols.new later → it ≡ clause_of later clause.now) }
-    ensures well_formed { IfOk result IsClauseFormed }
 {
     let mut variables = Variables::new(alloc);
     let tree = read_part(alloc, &clause.term, symbols, &mut variables)?;
