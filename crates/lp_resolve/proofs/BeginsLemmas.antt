@@ -1,9 +1,10 @@
 -- Tables that begin with others.
-use Rattle.std.proofs.Common.{◌≡◌, ◌∙◌, ℕ, suc, ◌+◌, Bool, true, false, not, ◌||◌, cond, List, [], ◌∷◌, ◌++◌, append-nil, append_assoc, refl, ap, sym}
+use Rattle.std.proofs.Common.{◌≡◌, ◌∙◌, ℕ, suc, ◌+◌, Bool, true, false, not, ◌||◌, cond, List, [], ◌∷◌, ◌++◌, append-nil, append_assoc, refl, ap, sym, subst}
 use Rattle.std.proofs.lemmas.List.Folds.{list_any-append}
 use Rattle.std.specs.List.{list_any, position_or_len}
 use Rattle.std.specs.Str.{bytes_eq}
 use Rattle.std.specs.Cmp.Lexicographic.{nat_list_eq_equiv}
+use Rattle.ref_terms.specs.declared.sym.Sym.{Sym}
 use Rattle.lp_resolve.specs.Symbols.{number_of, interned, Begins}
 use Rattle.lp_resolve.proofs.SymbolPlaces.{interned-old, interned-new}
 
@@ -41,3 +42,9 @@ pub number-later : (table : List (List ℕ)) (text : List ℕ) (later : List (Li
     → number_of later text ≡ number_of (interned table text) text
 number-later table text later b =
     ap (λ t. number_of t text) b.is ∙ place-front (bytes_eq text) (interned table text) b.more (interned-there table text)
+
+-- the symbol of an interned text, over each later table
+pub symbol-later : (table next : List (List ℕ)) (text : List ℕ) (symbol : Sym) → next ≡ interned table text → symbol.0 ≡ number_of next text
+    → (later : List (List ℕ)) → Begins next later → symbol ≡ record { 0 = number_of later text }
+symbol-later table next text symbol grown number later b =
+    ap (λ n. record { 0 = n }) (number ∙ ap (λ t. number_of t text) grown ∙ sym (number-later table text later (subst (λ t. Begins t later) grown b)))

@@ -3,6 +3,7 @@ pub mod BeginsLemmas
 pub mod ClauseLemmas
 pub mod FormedLemmas
 pub mod OccurrenceLemmas
+pub mod PutLemmas
 pub mod ReadsAsLemmas
 pub mod Replacing
 pub mod RuleLemmas

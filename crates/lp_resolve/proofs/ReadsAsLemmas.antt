@@ -15,7 +15,7 @@ pub interned_all-more : (start : List (List ℕ)) (xs ys : List (List ℕ)) → 
 interned_all-more start xs ys = sym (fold-append interned start xs ys)
 
 -- the texts of one more item
-pub flat_map_last : {A : Type 0} (texts : A → List (List ℕ)) (xs : List A) (x : A) → flat_map texts xs ++ texts x ≡ flat_map texts (xs ++ x ∷ [])
+pub flat_map_last : {A B : Type 0} (texts : A → List B) (xs : List A) (x : A) → flat_map texts xs ++ texts x ≡ flat_map texts (xs ++ x ∷ [])
 flat_map_last texts xs x = flat_map_more texts [] xs x
 
 -- the last of the items is read after the others

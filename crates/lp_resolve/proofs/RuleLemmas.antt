@@ -4,6 +4,7 @@ use Rattle.lp_parser.specs.declared.ast.Place.{Place}
 use Rattle.lp_parser.specs.declared.ast.WordPair.{WordPair}
 use Rattle.lp_parser.specs.declared.ast.RuleHead.{RuleHead}
 use Rattle.lp_parser.specs.declared.ast.Rule.{Rule}
+use Rattle.ref_terms.specs.declared.sym.Sym.{Sym}
 use Rattle.ref_terms.specs.declared.tree.Tree.{Tree}
 use Rattle.lp_resolve.specs.declared.program.HeadTree.{HeadTree}
 use Rattle.lp_resolve.specs.declared.program.PairTree.{PairTree}
@@ -11,8 +12,8 @@ use Rattle.lp_resolve.specs.declared.placed.PlacedHead.{PlacedHead}
 use Rattle.lp_resolve.specs.declared.placed.RuleParts.{RuleParts}
 use Rattle.lp_resolve.specs.Places.{first_token}
 use Rattle.lp_resolve.specs.Symbols.{Begins}
-use Rattle.lp_resolve.specs.Variables.{Met}
-use Rattle.lp_resolve.specs.ProgramReading.{Read, read_all, read_option, read_variable, read_tree, read_pair, read_head, read_parts}
+use Rattle.lp_resolve.specs.Variables.{Met, nothing_met}
+use Rattle.lp_resolve.specs.ProgramReading.{Read, read_all, read_option, read_variable, read_tree, read_pair, read_head, read_parts, rule_with, rule_of}
 use Rattle.lp_resolve.specs.ReadsAs.{ReadsAs}
 use Rattle.lp_resolve.proofs.BeginsLemmas.{begins-trans}
 
@@ -91,3 +92,10 @@ module _ (r : Rule) (t1 t2 t3 t4 t5 : List (List ℕ)) (m0 m1 m2 m3 m4 m5 : Met)
         ∙ ap (from_tests later r kept removed pairs) (s.is later c4)
         ∙ ap (from_body kept removed pairs tests) (o.is later c)
     }
+
+-- a rule whose parts and variables were read is the rule of the text
+pub rule_with-read : (later : List (List ℕ)) (names : List Sym) (r : Rule) (start : Met) (parts : RuleParts) (met : Met) → start ≡ nothing_met
+    → read_parts later start r ≡ record { value = parts; met = met } → rule_with names r parts (length met.names) ≡ rule_of later names r
+rule_with-read later names r start parts met none e =
+    sym (ap (λ (it : Read RuleParts). rule_with names r it.value (length it.met.names)) e)
+    ∙ ap (λ (s : Met). rule_with names r (read_parts later s r).value (length (read_parts later s r).met.names)) none

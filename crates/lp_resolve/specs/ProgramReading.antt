@@ -1,11 +1,11 @@
 -- What the items of a program are read as, over the table of the symbols' texts.
 use Rattle.std.specs.Prelude.{ℕ, Bool, true, false, ◌&&◌, nat_eq, List, [], ◌∷◌, ◌++◌, length, map, flat_map, take, drop, Option, Some, None, option_map}
-use Rattle.std.specs.List.{filter_map}
 use Rattle.std.specs.Option.{option_map_or}
 use Rattle.lp_parser.specs.declared.ast.Place.{Place}
 use Rattle.lp_parser.specs.declared.ast.AstTerm.{AstTerm}
 use Rattle.lp_parser.specs.declared.ast.Word.{Word}
 use Rattle.lp_parser.specs.declared.ast.WordPair.{WordPair}
+use Rattle.lp_parser.specs.declared.ast.AstArg.{AstArg}
 use Rattle.lp_parser.specs.declared.ast.Decl.{Decl}
 use Rattle.lp_parser.specs.declared.ast.Decl.TheVariants.{KindDecl, TypeDecl, PredDecl}
 use Rattle.lp_parser.specs.declared.ast.Clause.{Clause}
@@ -77,11 +77,11 @@ clause_with c met parts = record {
     places = record { first = c.place; head = first_token c.term; vars = take (length (occurrences parts.0)) met.places }
   }
 
--- a rule of these parts
-abbrev pub rule_with : List Sym → Rule → RuleParts → (met : Met) → RuleTree
-rule_with names r parts met = record {
+-- a rule of these parts, with so many variables
+abbrev pub rule_with : List Sym → Rule → RuleParts → (vars : ℕ) → RuleTree
+rule_with names r parts vars = record {
     names = names;
-    vars = length met.names;
+    vars = vars;
     kept = map (λ h. h.head) parts.kept;
     removed = map (λ h. h.head) parts.removed;
     pairs = parts.pairs;
@@ -110,11 +110,15 @@ module _ (table : List (List ℕ)) where
   read_variable met w =
       let word = number_of table w.text in record { value = number_in met.names word; met = met_word word w.place met }
 
-  -- the declaration that a declaration of a predicate is
-  abbrev pub line_of : Decl → Option PredLine
-  line_of (KindDecl names arrows) = None
-  line_of (TypeDecl names ty) = None
-  line_of (PredDecl name args) = Some (record { name = symbol_of name; place = name.place; inputs = map (λ a. a.input) args })
+  -- a declaration of a predicate
+  abbrev pub line_of : Word → List AstArg → PredLine
+  line_of name args = record { name = symbol_of name; place = name.place; inputs = map (λ a. a.input) args }
+
+  -- the declarations of predicates that a declaration is: one, or none
+  abbrev pub lines_of : Decl → List PredLine
+  lines_of (KindDecl names arrows) = []
+  lines_of (TypeDecl names ty) = []
+  lines_of (PredDecl name args) = line_of name args ∷ []
 
   -- a clause
   abbrev pub clause_of : Clause → ClauseTree
@@ -156,29 +160,33 @@ module _ (table : List (List ℕ)) where
 
   -- a rule of a block with these names
   abbrev pub rule_of : List Sym → Rule → RuleTree
-  rule_of names r = let it = read_parts nothing_met r in rule_with names r it.value it.met
+  rule_of names r = let it = read_parts nothing_met r in rule_with names r it.value (length it.met.names)
 
-  -- the declaration of a predicate that an item is
-  abbrev pub item_line : Item → Option PredLine
-  item_line (item.Decl d) = line_of d
-  item_line (item.Clause c) = None
-  item_line (item.Block b) = None
+  -- the declarations of predicates in an item
+  abbrev pub item_lines : Item → List PredLine
+  item_lines (item.Decl d) = lines_of d
+  item_lines (item.Clause c) = []
+  item_lines (item.Block b) = []
 
-  -- the clause that an item is
-  abbrev pub item_clause : Item → Option ClauseTree
-  item_clause (item.Decl d) = None
-  item_clause (item.Clause c) = Some (clause_of c)
-  item_clause (item.Block b) = None
+  -- the clauses of an item
+  abbrev pub item_clauses : Item → List ClauseTree
+  item_clauses (item.Decl d) = []
+  item_clauses (item.Clause c) = clause_of c ∷ []
+  item_clauses (item.Block b) = []
+
+  -- the rules of a block
+  abbrev pub block_rules : Block → List RuleTree
+  block_rules b = map (rule_of (map symbol_of b.names)) b.rules
 
   -- the rules of an item
   abbrev pub item_rules : Item → List RuleTree
   item_rules (item.Decl d) = []
   item_rules (item.Clause c) = []
-  item_rules (item.Block b) = map (rule_of (map symbol_of b.names)) b.rules
+  item_rules (item.Block b) = block_rules b
 
   -- the program that the items are read as
   abbrev pub program_of : List Item → Program
   program_of items =
-      let lines = filter_map item_line items in
-      let clauses = filter_map item_clause items in
+      let lines = flat_map item_lines items in
+      let clauses = flat_map item_clauses items in
       record { preds = gathered lines clauses; clauses = clauses; rules = flat_map item_rules items; decls = lines }

@@ -5,6 +5,7 @@ mod build;
 mod checked;
 mod clauses;
 mod gather;
+mod items;
 mod occurrences;
 mod parts;
 mod placed;

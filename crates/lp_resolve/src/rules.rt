@@ -181,3 +181,109 @@ fn read_parts(
         body,
     })
 }
+
+// The heads alone; their places and those of their variables are put last into these lists.
+fn take_apart(
+    alloc: Global,
+    heads: Sequence<PlacedHead>,
+    places: &mut Sequence<Place>,
+    vars: &mut Sequence<Sequence<Place>>,
+) -> Result<Sequence<HeadTree>, AllocError>
+    ensures trees { IfOk result (λ trees. trees ≡ map (λ h. h.head) heads) }
+    ensures places { OnOk result (places.new ≡ places.old ++ map (λ h. h.place) heads) }
+    ensures vars { OnOk result (vars.new ≡ vars.old ++ map (λ h. h.vars) heads) }
+{
+    let mut trees = Sequence::new(alloc);
+    for placed in heads.into_vec() {
+        let PlacedHead {
+            head,
+            place,
+            vars: tokens,
+        } = placed;
+        trees.push(head)?;
+        places.push(place)?;
+        vars.push(tokens)?;
+    }
+    Ok(trees)
+}
+
+// The places of the left words of pairs.
+fn pair_places(alloc: Global, pairs: &[WordPair]) -> Result<Sequence<Place>, AllocError>
+    ensures { IfOk result (λ places. places ≡ map (λ p. p.left.place) pairs.now) }
+{
+    let mut places = Sequence::new(alloc);
+    for pair in pairs {
+        places.push(pair.left.place)?;
+    }
+    Ok(places)
+}
+
+// The first tokens of tests that aren't `(`.
+fn test_places(alloc: Global, tests: &[AstTerm]) -> Result<Sequence<Place>, AllocError>
+    ensures { IfOk result (λ places. places ≡ map first_token tests.now) }
+{
+    let mut places = Sequence::new(alloc);
+    for test in tests {
+        places.push(first_token(test))?;
+    }
+    Ok(places)
+}
+
+// The rule of these parts.
+fn rule_with(
+    alloc: Global,
+    names: &[Sym],
+    rule: &Rule,
+    parts: RuleParts,
+    vars: usize,
+) -> Result<RuleTree, AllocError>
+    ensures { IfOk result (λ it. it ≡ rule_with names.now rule.now parts vars) }
+{
+    let RuleParts {
+        kept,
+        removed,
+        pairs,
+        tests,
+        body,
+    } = parts;
+    let mut heads = Sequence::new(alloc);
+    let mut tokens = Sequence::new(alloc);
+    let kept = take_apart(alloc, kept, &mut heads, &mut tokens)?;
+    let removed = take_apart(alloc, removed, &mut heads, &mut tokens)?;
+    let places = RulePlaces {
+        rule: rule.place,
+        heads,
+        vars: tokens,
+        pairs: pair_places(alloc, rule.pairs.as_slice())?,
+        tests: test_places(alloc, rule.tests.as_slice())?,
+    };
+    Ok(RuleTree {
+        names: Sequence::from_vec(Vec::from_slice(alloc, names)?),
+        vars,
+        kept,
+        removed,
+        pairs,
+        tests,
+        body,
+        places,
+    })
+}
+
+/// The rule of a block with these names that a rule of the text is read as.
+///
+/// Errors: want of memory.
+pub(crate) fn read_rule(
+    alloc: Global,
+    names: &[Sym],
+    rule: &Rule,
+    symbols: &mut Symbols,
+) -> Result<RuleTree, AllocError>
+    ensures begins { Begins symbols.old symbols.new }
+    ensures table { OnOk result (symbols.new ≡ interned_all symbols.old (rule_texts rule.now)) }
+    ensures rule { IfOk result (λ it. (later : List (List ℕ)) → Begins symbols.new later → it ≡ rule_of later names.now rule.now) }
+{
+    let mut variables = Variables::new(alloc);
+    let parts = read_parts(alloc, rule, symbols, &mut variables)?;
+    let it = rule_with(alloc, names, rule, parts, variables.len())?;
+    Ok(it)
+}
