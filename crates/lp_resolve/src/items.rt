@@ -1,7 +1,7 @@
 //! Reads the items of a program.
 ghost use Rattle.std.specs.Prelude.{◌≡◌, [], ◌∷◌, ◌++◌, ℕ, List, flat_map, map, IfOk, OnOk};
 ghost use Rattle.lp_resolve.specs.Symbols.{Begins, interned_all};
-ghost use Rattle.lp_resolve.specs.ProgramTexts.{rule_texts, decl_texts, block_texts, item_texts};
+ghost use Rattle.lp_resolve.specs.ProgramTexts.{rule_texts, decl_texts, block_texts, item_texts, program_texts};
 ghost use Rattle.lp_resolve.specs.ProgramReading.{symbol_of, lines_of, rule_of, block_rules, item_lines, item_clauses, item_rules};
 
 use crate::clauses::read_clause;
@@ -111,4 +111,67 @@ fn read_block(
     let names = read_names(alloc, block.names.as_slice(), symbols)?;
     read_rules(alloc, names.as_slice(), block.rules.as_slice(), symbols, rules)?;
     Ok(())
+}
+
+/// What items make, in the order of the text.
+#[derive(Debug, Drop)]
+pub(crate) struct ItemLists {
+    pub(crate) lines: Sequence<PredLine>,
+    pub(crate) clauses: Sequence<ClauseTree>,
+    pub(crate) rules: Sequence<RuleTree>,
+}
+
+// What an item makes is put last.
+fn read_item(
+    alloc: Global,
+    item: &Item,
+    symbols: &mut Symbols,
+    lists: &mut ItemLists,
+) -> Result<(), AllocError>
+    ensures begins { Begins symbols.old symbols.new }
+    ensures table { OnOk result (symbols.new ≡ interned_all symbols.old (item_texts item.now)) }
+    ensures lines { OnOk result ((later : List (List ℕ)) → Begins symbols.new later → lists.new.lines ≡ lists.old.lines ++ item_lines later item.now) }
+    ensures clauses { OnOk result ((later : List (List ℕ)) → Begins symbols.new later → lists.new.clauses ≡ lists.old.clauses ++ item_clauses later item.now) }
+    ensures rules { OnOk result ((later : List (List ℕ)) → Begins symbols.new later → lists.new.rules ≡ lists.old.rules ++ item_rules later item.now) }
+{
+    match item {
+        Item::Decl(decl) => {
+            read_decl(alloc, decl, symbols, &mut lists.lines)?;
+            Ok(())
+        }
+        Item::Clause(clause) => {
+            let it = read_clause(alloc, clause, symbols)?;
+            lists.clauses.push(it)?;
+            Ok(())
+        }
+        Item::Block(block) => {
+            read_block(alloc, block, symbols, &mut lists.rules)?;
+            Ok(())
+        }
+    }
+}
+
+/// What the items make.
+///
+/// Errors: want of memory.
+pub(crate) fn read_items(
+    alloc: Global,
+    items: &[Item],
+    symbols: &mut Symbols,
+) -> Result<ItemLists, AllocError>
+    ensures begins { Begins symbols.old symbols.new }
+    ensures table { OnOk result (symbols.new ≡ interned_all symbols.old (program_texts items.now)) }
+    ensures lines { IfOk result (λ it. it.lines ≡ flat_map (item_lines symbols.new) items.now) }
+    ensures clauses { IfOk result (λ it. it.clauses ≡ flat_map (item_clauses symbols.new) items.now) }
+    ensures rules { IfOk result (λ it. it.rules ≡ flat_map (item_rules symbols.new) items.now) }
+{
+    let mut lists = ItemLists {
+        lines: Sequence::new(alloc),
+        clauses: Sequence::new(alloc),
+        rules: Sequence::new(alloc),
+    };
+    for item in items {
+        read_item(alloc, item, symbols, &mut lists)?;
+    }
+    Ok(lists)
 }
