@@ -21,4 +21,5 @@ pub use query::{Query, QueryVar, QueryVars};
 pub use resolve::resolve_program;
 pub use static_rule::StaticRule;
 pub use symbols::Symbols;
+pub use trees::{arity_of, constant_of};
 pub use variable::Variable;

@@ -1,0 +1,4 @@
+pub mod Firsts
+pub mod Forms
+pub mod Sightings
+pub mod Spines
