@@ -1,5 +1,6 @@
 -- What is known of trees and heads, form by form.
-use Rattle.std.proofs.Common.{◌≡◌, ◌∙◌, ℕ, ℤ, List, [], ◌∷◌, ◌++◌, Option, Some, None, map, flat_map, ap, sym, refl}
+use Rattle.std.proofs.Common.{◌≡◌, ◌∙◌, ℕ, ℤ, Bool, append_assoc, List, [], ◌∷◌, ◌++◌, Option, Some, None, map, flat_map, ap, sym, refl}
+use Rattle.std.proofs.lemmas.List.{map-append}
 use Rattle.ref_terms.specs.declared.sym.Sym.{Sym}
 use Rattle.ref_terms.specs.declared.tree.Tree.{Tree, fold-roll-Tree}
 use Rattle.ref_terms.specs.declared.tree.Tree.TheVariants.{Lam, Ap, rolls-Lam, rolls-Ap}
@@ -67,3 +68,13 @@ head-variable v = ap head_walked (sym (rolls-ClauseVar v)) ∙ fold-roll-Head Fr
 
 pub head-stuck : (abstraction : Tree) → head_walked (Stuck abstraction) ≡ stuck (occurrences abstraction)
 head-stuck abstraction = ap head_walked (sym (rolls-Stuck abstraction)) ∙ fold-roll-Head Front Walked front_at walked_at (Head-F.Stuck abstraction)
+
+-- what is noted of a head and then of its arguments
+pub noted-ap : (f : Occurrence → Bool) (tree : Tree) (head : Head) (args : List Tree) (old middle new : List Bool) → tree ≡ Ap head args
+    → middle ≡ old ++ map f (front_places (head_walked head) (names_of args)) → new ≡ middle ++ map f (flat_map occurrences args)
+    → new ≡ old ++ map f (occurrences tree)
+noted-ap f tree head args old middle new is first rest =
+    rest ∙ ap (λ bs. bs ++ map f (flat_map occurrences args)) first
+    ∙ append_assoc old (map f (front_places (head_walked head) (names_of args))) (map f (flat_map occurrences args))
+    ∙ ap (λ bs. old ++ bs) (sym (ap (map f) (ap occurrences is ∙ occurrences-ap head args)
+        ∙ map-append f (front_places (head_walked head) (names_of args)) (flat_map occurrences args)))

@@ -1,4 +1,6 @@
 pub mod Firsts
 pub mod Forms
+pub mod GoalPlaces
+pub mod HeadBreaches
 pub mod Sightings
 pub mod Spines

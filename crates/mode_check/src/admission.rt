@@ -12,9 +12,8 @@ use crate::rules::first_in_rules;
 use lp_resolve::{Checked, Program};
 use std::alloc::{AllocError, Global};
 
-// The first breach of a program.
-fn first_breach(alloc: Global, program: &Program) -> Result<Option<Breach>, AllocError>
-    requires { IsWellFormed program.now }
+/// The first breach of a program.
+pub fn first_breach(alloc: Global, program: &Program) -> Result<Option<Breach>, AllocError>
     ensures { IfOk result (λ found. found ≡ first_breach program.now) }
 {
     let lines = program.decls.as_slice();
@@ -24,11 +23,9 @@ fn first_breach(alloc: Global, program: &Program) -> Result<Option<Breach>, Allo
     let clause_heads = first_in_clauses(alloc, &program.preds, program.clauses.as_slice())?;
     let rule_heads = first_in_rule_heads(alloc, &program.preds, rules)?;
     let in_rules = first_in_rules(alloc, rules)?;
-    let heads = earlier(clause_heads, rule_heads);
-    Ok(earlier(
-        redeclared,
-        earlier(reserved, earlier(heads, in_rules)),
-    ))
+    let in_lines = earlier(redeclared, reserved);
+    let in_heads = earlier(clause_heads, rule_heads);
+    Ok(earlier(earlier(in_lines, in_heads), in_rules))
 }
 
 /// Admits a program that keeps all static rules.

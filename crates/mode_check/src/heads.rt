@@ -1,7 +1,6 @@
 //! Breaches of heads.
-ghost use Rattle.std.specs.Prelude.{◌≡◌, ◌<◌, length, map, flat_map, All, Some, slice_get, IfOk};
+ghost use Rattle.std.specs.Prelude.{◌≡◌, ◌<◌, length, map, flat_map, Some, slice_get, IfOk};
 ghost use Rattle.lp_resolve.specs.StaticRules.{PlacedHead, clause_head, rule_heads, goals_of, has_other_arity, has_reserved_head, lacks_constant, head_breaches, first_of};
-ghost use Rattle.lp_resolve.specs.WellFormed.{IsRuleFormed};
 
 use crate::breach::{Breach, breach_if, earlier};
 use crate::declarations::is_reserved;
@@ -55,10 +54,8 @@ fn first_in_head(
     let other = breach_if(has_other_arity(preds, tree), StaticRule::S3, place);
     let unusable = first_unusable(alloc, tree, place, vars)?;
     let reserved = breach_if(has_reserved_head(tree), StaticRule::S5, place);
-    Ok(earlier(
-        headless,
-        earlier(other, earlier(unusable, reserved)),
-    ))
+    let at_head = earlier(headless, other);
+    Ok(earlier(earlier(at_head, unusable), reserved))
 }
 
 /// The first breach of the heads of clauses.
@@ -76,6 +73,13 @@ pub fn first_in_clauses(
         found = earlier(found, next);
     }
     Ok(found)
+}
+
+/// How many heads a rule has.
+pub fn head_count(rule: &RuleTree) -> usize
+    ensures { result ≡ length (goals_of rule.now) }
+{
+    rule.kept.as_slice().len() + rule.removed.as_slice().len()
 }
 
 /// The goal of a head of a rule, kept ones first.
@@ -97,13 +101,12 @@ fn first_in_heads(
     preds: &Preds,
     rule: &RuleTree,
 ) -> Result<Option<Breach>, AllocError>
-    requires { IsRuleFormed rule.now }
     ensures { IfOk result (λ found. found ≡ first_of (flat_map (head_breaches preds.now) (rule_heads rule.now))) }
 {
     let places = rule.places.heads.as_slice();
     let vars = rule.places.vars.as_slice();
     let mut found = None;
-    for index in 0..places.len() {
+    for index in 0..head_count(rule).min(places.len()).min(vars.len()) {
         let goal = goal_at(rule, index);
         let next = first_in_head(alloc, preds, goal, places[index], vars[index].as_slice())?;
         found = earlier(found, next);
@@ -117,7 +120,6 @@ pub fn first_in_rule_heads(
     preds: &Preds,
     rules: &[RuleTree],
 ) -> Result<Option<Breach>, AllocError>
-    requires { All IsRuleFormed rules.now }
     ensures { IfOk result (λ found. found ≡ first_of (flat_map (λ r. flat_map (head_breaches preds.now) (rule_heads r)) rules.now)) }
 {
     let mut found = None;

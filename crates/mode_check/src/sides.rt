@@ -2,10 +2,9 @@
 ghost use Rattle.std.specs.Prelude.{◌≡◌, ℕ, nat_eq, Bool, Option, OnOk, IfOk};
 ghost use Rattle.indexmap.specs.IndexMap.{get};
 ghost use Rattle.lp_resolve.specs.StaticRules.{goals_of, has_whole, head_with};
-ghost use Rattle.lp_resolve.specs.WellFormed.{IsRuleFormed};
 ghost use Rattle.mode_check.specs.Sides.{unless_seen};
 
-use crate::heads::goal_at;
+use crate::heads::{goal_at, head_count};
 use crate::trees::{args_of, variable_of};
 use indexmap::IndexMap;
 use lp_resolve::RuleTree;
@@ -28,11 +27,10 @@ fn note_head(heads: &mut IndexMap<usize, usize>, goal: &Tree, head: usize) -> Re
 
 /// For each variable the first head of the rule that has it as a whole argument.
 pub fn first_heads(alloc: Global, rule: &RuleTree) -> Result<IndexMap<usize, usize>, AllocError>
-    requires { IsRuleFormed rule.now }
     ensures { IfOk result (λ heads. (v : ℕ) → get nat_eq heads v ≡ head_with v (goals_of rule.now)) }
 {
     let mut heads = IndexMap::new(alloc);
-    for index in 0..rule.places.heads.len() {
+    for index in 0..head_count(rule) {
         note_head(&mut heads, goal_at(rule, index), index)?;
     }
     Ok(heads)
