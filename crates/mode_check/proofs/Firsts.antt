@@ -2,7 +2,7 @@
 use Rattle.std.proofs.Common.{◌≡◌, ◌∙◌, ℕ, ◌+◌, ◌<◌, ◌≤◌, min, Bool, true, false, List, [], ◌∷◌, ◌++◌, Option, Some, None, length, get_or, take, map, filter, sym, ap, refl, arith}
 use Rattle.std.specs.Prelude.{if◌then◌else◌, nat_lt}
 use Rattle.std.specs.List.{flat_map, zip}
-use Rattle.std.proofs.lemmas.List.{take_more, take_all}
+use Rattle.std.proofs.lemmas.List.{take_more, take_all, get_or_default}
 use Rattle.std.proofs.lemmas.List.Folds.{flat_map-map}
 use Rattle.std.proofs.lemmas.Slice.Zip.{length-zip, get_or-zip}
 use Rattle.std.proofs.lemmas.Grind.{flat_map-append}
@@ -79,15 +79,17 @@ breaches-where s test (i ∷ items) = of (test i.0) (breaches-where s test items
   of true rest = ap (λ bs. record { rule = s; place = i.1 } ∷ bs) rest
   of false rest = rest
 
--- one item of a list with a place, found or not
-pub marked-more : {A : Type 0} (s : StaticRule) (test : A → Bool) (xs : List A) (ps : List Place) (i : ℕ) (x : A) (p : Place) (found next later : Option Breach)
-    → i < length xs → i < length ps → x ≡ get_or xs i x → p ≡ get_or ps i p
-    → found ≡ first_of (flat_map (breach_at s test) (take i (zip xs ps))) → next ≡ first_of (breach_at s test (x, p)) → later ≡ earlier found next
+-- one more item of a list with places, where it is known whether the rule is broken there
+pub marked-more : {A : Type 0} (s : StaticRule) (test : A → Bool) (xs : List A) (ps : List Place) (i : ℕ) (x : A) (e : Place) (broken : Bool) (found next later : Option Breach)
+    → next ≡ first_of (breaches_at s (if broken then get_or ps i e ∷ [] else [])) → broken ≡ test x → x ≡ get_or xs i x
+    → i < length xs → i < length ps → found ≡ first_of (flat_map (breach_at s test) (take i (zip xs ps))) → later ≡ earlier found next
     → later ≡ first_of (flat_map (breach_at s test) (take (i + 1) (zip xs ps)))
-marked-more s test xs ps i x p found next later hx hp ex ep before here both =
+marked-more s test xs ps i x e broken found next later here known ex hx hp before both =
+    let p : Place = get_or ps i e in
     let within : i < length (zip xs ps) = omega (arith, length-zip xs ps) in
+    let ep : p ≡ get_or ps i p = get_or_default ps i e p hp in
     let item : (x, p) ≡ get_or (zip xs ps) i (x, p) = ap (λ y. (y, p)) ex ∙ ap (λ q. (get_or xs i x, q)) ep ∙ sym (get_or-zip xs ps i (x, p) hx hp) in
-    next-first (breach_at s test) (zip xs ps) i (x, p) found next later within item before here both
+    next-first (breach_at s test) (zip xs ps) i (x, p) found next later within item before (here ∙ ap (λ b. first_of (breaches_at s (if b then p ∷ [] else []))) known) both
 
 -- all items of a list with places
 pub marked-all : {A : Type 0} (s : StaticRule) (test : A → Bool) (xs : List A) (ps : List Place) (n : ℕ) → min (length xs) (length ps) ≤ n

@@ -1,5 +1,5 @@
 -- What is known of trees and heads, form by form.
-use Rattle.std.proofs.Common.{◌≡◌, ◌∙◌, ℕ, ℤ, Bool, append_assoc, List, [], ◌∷◌, ◌++◌, Option, Some, None, map, flat_map, ap, sym, refl}
+use Rattle.std.proofs.Common.{◌≡◌, ◌∙◌, ℕ, ℤ, Bool, append_assoc, List, [], ◌∷◌, ◌++◌, Option, Some, None, Result, Ok, Err, OnOk, map, flat_map, ap, sym, refl}
 use Rattle.std.proofs.lemmas.List.{map-append}
 use Rattle.ref_terms.specs.declared.sym.Sym.{Sym}
 use Rattle.ref_terms.specs.declared.tree.Tree.{Tree, fold-roll-Tree}
@@ -71,10 +71,17 @@ head-stuck abstraction = ap head_walked (sym (rolls-Stuck abstraction)) ∙ fold
 
 -- what is noted of a head and then of its arguments
 pub noted-ap : (f : Occurrence → Bool) (tree : Tree) (head : Head) (args : List Tree) (old middle new : List Bool) → tree ≡ Ap head args
-    → middle ≡ old ++ map f (front_places (head_walked head) (names_of args)) → new ≡ middle ++ map f (flat_map occurrences args)
+    → (spine rest : List Tree) → spine ≡ args → rest ≡ args
+    → middle ≡ old ++ map f (front_places (head_walked head) (names_of spine)) → new ≡ middle ++ map f (flat_map occurrences rest)
     → new ≡ old ++ map f (occurrences tree)
-noted-ap f tree head args old middle new is first rest =
-    rest ∙ ap (λ bs. bs ++ map f (flat_map occurrences args)) first
+noted-ap f tree head args old middle new is spine rest es er first last =
+    last ∙ ap (λ xs. middle ++ map f (flat_map occurrences xs)) er
+    ∙ ap (λ bs. bs ++ map f (flat_map occurrences args)) (first ∙ ap (λ xs. old ++ map f (front_places (head_walked head) (names_of xs))) es)
     ∙ append_assoc old (map f (front_places (head_walked head) (names_of args))) (map f (flat_map occurrences args))
     ∙ ap (λ bs. old ++ bs) (sym (ap (map f) (ap occurrences is ∙ occurrences-ap head args)
         ∙ map-append f (front_places (head_walked head) (names_of args)) (flat_map occurrences args)))
+
+-- a fact on success, from another
+pub when-ok : {A E P Q : Type 0} (r : Result A E) → (P → Q) → OnOk r P → OnOk r Q
+when-ok (Ok x) f p = f p
+when-ok (Err e) f p = p

@@ -1,7 +1,7 @@
 -- The goals of a rule's heads, by their places.
-use Rattle.std.proofs.Common.{◌≡◌, ◌∙◌, ℕ, ◌-◌, ◌<◌, ◌≤◌, List, ◌++◌, Some, length, map, get_or, slice_get, option_map, sym, ap, refl, arith, length-map, length-append}
+use Rattle.std.proofs.Common.{◌≡◌, ◌∙◌, ℕ, ◌-◌, ◌<◌, ◌≤◌, List, ◌++◌, Some, length, map, get_or, slice_get, option_map, sym, ap, refl, arith}
 use Rattle.std.proofs.lemmas.Option.{slice_get-map, slice_get-get_or}
-use Rattle.std.proofs.lemmas.List.{get_or-append_right}
+use Rattle.std.proofs.lemmas.List.{length-map, get_or-append_right}
 use Rattle.lp_resolve.specs.declared.program.HeadTree.{HeadTree}
 use Rattle.lp_resolve.specs.declared.program.RuleTree.{RuleTree}
 use Rattle.lp_resolve.specs.StaticRules.{heads_of, goals_of}

@@ -1,6 +1,6 @@
 -- The breaches of a rule's heads, head by head.
-use Rattle.std.proofs.Common.{◌≡◌, ◌∙◌, ℕ, ◌+◌, ◌<◌, ◌≤◌, min, List, Option, Some, length, get_or, take, slice_get, map, flat_map, zip, sym, ap, refl, arith, length-map}
-use Rattle.std.proofs.lemmas.List.{get_or-map, take_all}
+use Rattle.std.proofs.Common.{◌≡◌, ◌∙◌, ℕ, ◌+◌, ◌<◌, ◌≤◌, min, List, Option, Some, length, get_or, take, slice_get, map, flat_map, zip, sym, ap, refl, arith}
+use Rattle.std.proofs.lemmas.List.{length-map, get_or-map, take_all}
 use Rattle.std.proofs.lemmas.Option.{slice_get_within, get_or_from_slice_get}
 use Rattle.std.proofs.lemmas.Slice.Zip.{length-zip, get_or-zip}
 use Rattle.lp_parser.specs.declared.ast.Place.{Place}
@@ -11,7 +11,7 @@ use Rattle.lp_resolve.specs.StaticRules.{Breach, PlacedHead, rule_heads, goals_o
 use Rattle.mode_check.proofs.Firsts.{next-first}
 
 -- a goal with its places
-abbrev placed : Tree × Place × List Place → PlacedHead
+abbrev pub placed : Tree × (Place × List Place) → PlacedHead
 placed h = record { tree = h.0; place = h.1.0; vars = h.1.1 }
 
 -- how many heads there are with all their places

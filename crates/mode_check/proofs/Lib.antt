@@ -1,3 +1,4 @@
+pub mod Alignment
 pub mod Firsts
 pub mod Forms
 pub mod GoalPlaces

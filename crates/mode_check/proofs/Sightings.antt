@@ -15,7 +15,7 @@ use Rattle.lp_resolve.specs.declared.static_rule.StaticRule.TheVariants.{S1}
 use Rattle.lp_resolve.specs.Heads.{args_of, variable_of}
 use Rattle.lp_resolve.specs.StaticRules.{Breach, is_declared, redeclared, breaches_at, earlier, first_of, has_whole, head_with}
 use Rattle.mode_check.specs.Sides.{unless_seen}
-use Rattle.mode_check.proofs.Firsts.{first_of-append}
+use Rattle.mode_check.proofs.Firsts.{earlier-assoc, first_of-append}
 
 or-false : (b : Bool) → (b || false) ≡ b
 or-false true = refl
@@ -57,6 +57,30 @@ redeclared-more lines i d h e =
     here : List Place
     here = if is_declared d.name.0 (take i lines) then d.place ∷ [] else []
 
+-- the names of a set, with one more declaration
+pub names-more : (lines : List PredLine) (i : ℕ) (d : PredLine) (keys later : List ℕ) → i < length lines → d ≡ get_or lines i d
+    → later ≡ insert_key nat_eq keys d.name.0 → ((c : ℕ) → list_any (nat_eq c) keys ≡ is_declared c (take i lines))
+    → (c : ℕ) → list_any (nat_eq c) later ≡ is_declared c (take (i + 1) lines)
+names-more lines i d keys later h e l same c =
+    ap (list_any (nat_eq c)) l ∙ any-insert keys d.name.0 c ∙ ap (λ b. b || nat_eq c d.name.0) (same c) ∙ sym (declared-more lines i d c h e)
+
+not-not : (b : Bool) → not (not b) ≡ b
+not-not true = refl
+not-not false = refl
+
+-- the first breach of S1 so far, with one more declaration
+pub found-more : (lines : List PredLine) (i : ℕ) (d : PredLine) (keys : List ℕ) (added : Bool) (found next later : Option Breach) → i < length lines → d ≡ get_or lines i d
+    → ((c : ℕ) → list_any (nat_eq c) keys ≡ is_declared c (take i lines)) → added ≡ not (list_any (nat_eq d.name.0) keys)
+    → next ≡ first_of (breaches_at S1 (if not added then d.place ∷ [] else [])) → later ≡ earlier found next
+    → earlier found (first_of (breaches_at S1 (redeclared (take i lines) (drop i lines))))
+      ≡ earlier later (first_of (breaches_at S1 (redeclared (take (i + 1) lines) (drop (i + 1) lines))))
+found-more lines i d keys added found next later h e same a here both =
+    let known : not added ≡ is_declared d.name.0 (take i lines) = ap not a ∙ not-not (list_any (nat_eq d.name.0) keys) ∙ same d.name.0 in
+    let first : next ≡ first_of (breaches_at S1 (if is_declared d.name.0 (take i lines) then d.place ∷ [] else [])) =
+        here ∙ ap (λ b. first_of (breaches_at S1 (if b then d.place ∷ [] else []))) known in
+    let rest : Option Breach = first_of (breaches_at S1 (redeclared (take (i + 1) lines) (drop (i + 1) lines))) in
+    ap (earlier found) (redeclared-more lines i d h e ∙ ap (λ o. earlier o rest) (sym first)) ∙ sym (earlier-assoc found next rest) ∙ ap (λ o. earlier o rest) (sym both)
+
 -- one of these trees is this variable alone
 abbrev pub holds : ℕ → List Tree → Bool
 holds v trees = list_any (λ a. option_map_or (nat_eq v) (variable_of a) false) trees
@@ -71,12 +95,14 @@ holds-more v trees i a h e =
 -- the first place at which a test holds, one item on
 position-cons : {A : Type 0} (p : A → Bool) (x : A) (xs : List A) → position p (x ∷ xs) ≡ (if p x then Some 0 else option_map suc (position p xs))
 position-cons p x xs = of (p x) (position_or_len p xs) (length xs) where
+  start : (m : ℕ) → (if nat_lt 0 (suc m) then Some 0 else None) ≡ Some 0
+  start m = grind (arith, nat_tests)
   down : (n m : ℕ) (b : Bool) → nat_lt n m ≡ b → (if nat_lt (1 + n) (suc m) then Some (1 + n) else None) ≡ option_map suc (if b then Some n else None)
   down n m true q = grind (arith, nat_tests)
   down n m false q = grind (arith, nat_tests)
   of : (b : Bool) (n m : ℕ) → (if nat_lt (if not b then 1 + n else 0) (suc m) then Some (if not b then 1 + n else 0) else None)
       ≡ (if b then Some 0 else option_map suc (if nat_lt n m then Some n else None))
-  of true n m = refl
+  of true n m = start m
   of false n m = down n m (nat_lt n m) refl
 
 -- and with one more item
