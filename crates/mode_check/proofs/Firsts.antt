@@ -128,3 +128,11 @@ first-placed f g h xs ys =
     ap (λ o. earlier o (first_of (flat_map (λ y. flat_map f (h y)) ys))) (ap first_of (sym (flat_map-map f g xs)))
     ∙ ap (λ o. earlier (first_of (flat_map f (map g xs))) o) (ap first_of (sym (flat-flat f h ys)))
     ∙ sym (ap first_of (flat_map-append f (map g xs) (flat_map h ys)) ∙ first_of-append (flat_map f (map g xs)) (flat_map f (flat_map h ys)))
+
+-- the same, as code joins them
+pub four-firsts : (a b c d : List Breach) (fa fb fc fd two three four : Option Breach) → fa ≡ first_of a → fb ≡ first_of b → fc ≡ first_of c → fd ≡ first_of d
+    → two ≡ earlier fa fb → three ≡ earlier two fc → four ≡ earlier three fd → four ≡ first_of (a ++ b ++ c ++ d)
+four-firsts a b c d fa fb fc fd two three four ea eb ec ed e2 e3 e4 =
+    let both : two ≡ earlier (first_of a) (first_of b) = e2 ∙ ap (λ o. earlier o fb) ea ∙ ap (earlier (first_of a)) eb in
+    let more : three ≡ earlier (earlier (first_of a) (first_of b)) (first_of c) = e3 ∙ ap (λ o. earlier o fc) both ∙ ap (earlier (earlier (first_of a) (first_of b))) ec in
+    e4 ∙ ap (λ o. earlier o fd) more ∙ ap (earlier (earlier (earlier (first_of a) (first_of b)) (first_of c))) ed ∙ first-four a b c d

@@ -1,6 +1,6 @@
 -- The breaches of a rule's heads, head by head.
 use Rattle.std.proofs.Common.{◌≡◌, ◌∙◌, ℕ, ◌+◌, ◌<◌, ◌≤◌, min, List, Option, Some, length, get_or, take, slice_get, map, flat_map, zip, sym, ap, refl, arith}
-use Rattle.std.proofs.lemmas.List.{length-map, get_or-map, take_all}
+use Rattle.std.proofs.lemmas.List.{length-map, get_or-map, get_or_default, take_all}
 use Rattle.std.proofs.lemmas.Option.{slice_get_within, get_or_from_slice_get}
 use Rattle.std.proofs.lemmas.Slice.Zip.{length-zip, get_or-zip}
 use Rattle.lp_parser.specs.declared.ast.Place.{Place}
@@ -39,6 +39,22 @@ heads-more preds r i tree place vars found next later eg hp hv ep ev before here
     let head : placed (tree, (place, vars)) ≡ get_or (rule_heads r) i (placed (tree, (place, vars))) =
         ap placed item ∙ sym (get_or-map placed (zip (goals_of r) (zip r.places.heads r.places.vars)) i (tree, (place, vars)) (placed (tree, (place, vars))) outer) in
     next-first (head_breaches preds) (rule_heads r) i (placed (tree, (place, vars))) found next later within head before here both
+
+-- the same, as a loop reads them
+pub heads-next : (preds : List (ℕ × Pred)) (r : RuleTree) (ps : List Place) (vs : List (List Place)) (i : ℕ) (tree : Tree) (e : Place) (item vars : List Place)
+    (found next later : Option Breach)
+    → next ≡ first_of (head_breaches preds (placed (tree, (get_or ps i e, vars))))
+    → slice_get (goals_of r) i ≡ Some tree → ps ≡ r.places.heads → vs ≡ r.places.vars → i < length ps → i < length vs → item ≡ get_or vs i item → vars ≡ item
+    → found ≡ first_of (flat_map (head_breaches preds) (take i (rule_heads r)))
+    → later ≡ earlier found next → later ≡ first_of (flat_map (head_breaches preds) (take (i + 1) (rule_heads r)))
+heads-next preds r ps vs i tree e item vars found next later here eg eps evs hp hv ei es before both =
+    let place : Place = get_or r.places.heads i e in
+    let hp' : i < length r.places.heads = omega (arith, ap length eps) in
+    let hv' : i < length r.places.vars = omega (arith, ap length evs) in
+    let ev : vars ≡ get_or r.places.vars i vars = es ∙ ei ∙ get_or_default vs i item vars hv ∙ ap (λ xs. get_or xs i vars) evs in
+    let here' : next ≡ first_of (head_breaches preds (placed (tree, (place, vars)))) =
+        here ∙ ap (λ xs. first_of (head_breaches preds (placed (tree, (get_or xs i e, vars))))) eps in
+    heads-more preds r i tree place vars found next later eg hp' hv' (get_or_default r.places.heads i e place hp') ev before here' both
 
 -- all heads
 pub heads-all : (preds : List (ℕ × Pred)) (r : RuleTree) (n : ℕ) → length (rule_heads r) ≤ n

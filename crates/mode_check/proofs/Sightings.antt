@@ -95,7 +95,9 @@ holds-more v trees i a h e =
 -- the first place at which a test holds, one item on
 position-cons : {A : Type 0} (p : A → Bool) (x : A) (xs : List A) → position p (x ∷ xs) ≡ (if p x then Some 0 else option_map suc (position p xs))
 position-cons p x xs = of (p x) (position_or_len p xs) (length xs) where
-  start : (m : ℕ) → (if nat_lt 0 (suc m) then Some 0 else None) ≡ Some 0
+  origin : Option ℕ
+  origin = Some 0
+  start : (m : ℕ) → (if nat_lt 0 (suc m) then origin else None) ≡ origin
   start m = grind (arith, nat_tests)
   down : (n m : ℕ) (b : Bool) → nat_lt n m ≡ b → (if nat_lt (1 + n) (suc m) then Some (1 + n) else None) ≡ option_map suc (if b then Some n else None)
   down n m true q = grind (arith, nat_tests)

@@ -92,14 +92,14 @@ negated added false e = ap not e
 
 -- one that was there
 pub spine-taken : (used : List ℕ) (args : List Tree) (i : ℕ) (a : Tree) (name : ℕ) (added : Bool) → i < length args → a ≡ get_or args i a → Some name ≡ (walked a).name
-    → added ≡ not (list_any (nat_eq name) used) → not added ≡ true → are_free used (names_of (drop i args)) ≡ false
-spine-taken used args i a name added h e n k b = spine-some used args i a name true h e n (sym (negated added (list_any (nat_eq name) used) k) ∙ b)
+    → added ≡ not (list_any (nat_eq name) used) → added ≡ false → are_free used (names_of (drop i args)) ≡ false
+spine-taken used args i a name added h e n k b = spine-some used args i a name true h e n (sym (negated added (list_any (nat_eq name) used) k) ∙ ap not b)
 
 -- a new one
 pub spine-new : (used later : List ℕ) (args : List Tree) (i : ℕ) (a : Tree) (name : ℕ) (added : Bool) → i < length args → a ≡ get_or args i a → Some name ≡ (walked a).name
-    → added ≡ not (list_any (nat_eq name) used) → not added ≡ false → later ≡ insert_key nat_eq used name
+    → added ≡ not (list_any (nat_eq name) used) → added ≡ true → later ≡ insert_key nat_eq used name
     → are_free used (names_of (drop i args)) ≡ are_free later (names_of (drop (i + 1) args))
 spine-new used later args i a name added h e n k b l =
-    let fresh : list_any (nat_eq name) used ≡ false = sym (negated added (list_any (nat_eq name) used) k) ∙ b in
+    let fresh : list_any (nat_eq name) used ≡ false = sym (negated added (list_any (nat_eq name) used) k) ∙ ap not b in
     spine-some used args i a name false h e n fresh
     ∙ ap (λ ks. are_free ks (names_of (drop (i + 1) args))) (sym (l ∙ ap (λ x. if x then used else used ++ name ∷ []) fresh))
