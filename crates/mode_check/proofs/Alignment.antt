@@ -21,5 +21,5 @@ pub unaligned-more : {S : Type 0} (goals : List Tree) (heads : IndexMap ℕ ℕ 
 unaligned-more goals heads pairs ps i d e broken found next later here known all hx hp before both =
     let pair : PairTree = get_or pairs i d in
     let says : broken ≡ is_unaligned goals pair =
-        known ∙ ap (λ o. not (are_in_order o (get nat_eq heads pair.right))) (all pair.left) ∙ ap (λ o. not (are_in_order (head_with pair.left goals) o)) (all pair.right) in
+    known ∙ ap (λ o. not (are_in_order o (get nat_eq heads pair.right))) (all pair.left) ∙ ap (λ o. not (are_in_order (head_with pair.left goals) o)) (all pair.right) in
     marked-more S7 (is_unaligned goals) pairs ps i pair e broken found next later here says (get_or_default pairs i d pair hx) hx hp before both

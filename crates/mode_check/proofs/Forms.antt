@@ -79,7 +79,7 @@ noted-ap f tree head args old middle new is spine rest es er first last =
     ∙ ap (λ bs. bs ++ map f (flat_map occurrences args)) (first ∙ ap (λ xs. old ++ map f (front_places (head_walked head) (names_of xs))) es)
     ∙ append_assoc old (map f (front_places (head_walked head) (names_of args))) (map f (flat_map occurrences args))
     ∙ ap (λ bs. old ++ bs) (sym (ap (map f) (ap occurrences is ∙ occurrences-ap head args)
-        ∙ map-append f (front_places (head_walked head) (names_of args)) (flat_map occurrences args)))
+    ∙ map-append f (front_places (head_walked head) (names_of args)) (flat_map occurrences args)))
 
 -- a fact on success, from another
 pub when-ok : {A E P Q : Type 0} (r : Result A E) → (P → Q) → OnOk r P → OnOk r Q

@@ -13,4 +13,4 @@ goal-removed r kept removed i d p q h l =
     let within : i < length (heads_of r) = omega (arith, length-map (heads_of r) (λ (head : HeadTree). head.goal)) in
     slice_get-map (λ head. head.goal) (heads_of r) i
     ∙ ap (option_map (λ head. head.goal)) (slice_get-get_or (heads_of r) i d within
-      ∙ ap Some (get_or-append_right r.kept r.removed (length kept) i d (sym (ap length p)) h ∙ ap (λ heads. get_or heads (i - length kept) d) (sym q)))
+    ∙ ap Some (get_or-append_right r.kept r.removed (length kept) i d (sym (ap length p)) h ∙ ap (λ heads. get_or heads (i - length kept) d) (sym q)))

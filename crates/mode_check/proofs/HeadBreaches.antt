@@ -32,12 +32,12 @@ heads-more preds r i tree place vars found next later eg hp hv ep ev before here
     let outer : i < length (zip (goals_of r) (zip r.places.heads r.places.vars)) = omega (arith, length-zip (goals_of r) (zip r.places.heads r.places.vars)) in
     let within : i < length (rule_heads r) = omega (arith, length-rule_heads r) in
     let places : (place, vars) ≡ get_or (zip r.places.heads r.places.vars) i (place, vars) =
-        ap (λ q. (q, vars)) ep ∙ ap (λ vs. (get_or r.places.heads i place, vs)) ev ∙ sym (get_or-zip r.places.heads r.places.vars i (place, vars) hp hv) in
+    ap (λ q. (q, vars)) ep ∙ ap (λ vs. (get_or r.places.heads i place, vs)) ev ∙ sym (get_or-zip r.places.heads r.places.vars i (place, vars) hp hv) in
     let item : (tree, (place, vars)) ≡ get_or (zip (goals_of r) (zip r.places.heads r.places.vars)) i (tree, (place, vars)) =
-        ap (λ t. (t, (place, vars))) (sym (get_or_from_slice_get (goals_of r) i tree tree eg)) ∙ ap (λ ps. (get_or (goals_of r) i tree, ps)) places
-        ∙ sym (get_or-zip (goals_of r) (zip r.places.heads r.places.vars) i (tree, (place, vars)) hg inner) in
+    ap (λ t. (t, (place, vars))) (sym (get_or_from_slice_get (goals_of r) i tree tree eg)) ∙ ap (λ ps. (get_or (goals_of r) i tree, ps)) places
+    ∙ sym (get_or-zip (goals_of r) (zip r.places.heads r.places.vars) i (tree, (place, vars)) hg inner) in
     let head : placed (tree, (place, vars)) ≡ get_or (rule_heads r) i (placed (tree, (place, vars))) =
-        ap placed item ∙ sym (get_or-map placed (zip (goals_of r) (zip r.places.heads r.places.vars)) i (tree, (place, vars)) (placed (tree, (place, vars))) outer) in
+    ap placed item ∙ sym (get_or-map placed (zip (goals_of r) (zip r.places.heads r.places.vars)) i (tree, (place, vars)) (placed (tree, (place, vars))) outer) in
     next-first (head_breaches preds) (rule_heads r) i (placed (tree, (place, vars))) found next later within head before here both
 
 -- the same, as a loop reads them
@@ -53,7 +53,7 @@ heads-next preds r ps vs i tree e item vars found next later here eg eps evs hp 
     let hv' : i < length r.places.vars = omega (arith, ap length evs) in
     let ev : vars ≡ get_or r.places.vars i vars = es ∙ ei ∙ get_or_default vs i item vars hv ∙ ap (λ xs. get_or xs i vars) evs in
     let here' : next ≡ first_of (head_breaches preds (placed (tree, (place, vars)))) =
-        here ∙ ap (λ xs. first_of (head_breaches preds (placed (tree, (get_or xs i e, vars))))) eps in
+    here ∙ ap (λ xs. first_of (head_breaches preds (placed (tree, (get_or xs i e, vars))))) eps in
     heads-more preds r i tree place vars found next later eg hp' hv' (get_or_default r.places.heads i e place hp') ev before here' both
 
 -- all heads

@@ -45,14 +45,14 @@ declared-more lines i d c h e =
 -- the first breach of S1 from a declaration on
 pub redeclared-more : (lines : List PredLine) (i : ℕ) (d : PredLine) → i < length lines → d ≡ get_or lines i d
     → first_of (breaches_at S1 (redeclared (take i lines) (drop i lines)))
-      ≡ earlier (first_of (breaches_at S1 (if is_declared d.name.0 (take i lines) then d.place ∷ [] else [])))
-          (first_of (breaches_at S1 (redeclared (take (i + 1) lines) (drop (i + 1) lines))))
+    ≡ earlier (first_of (breaches_at S1 (if is_declared d.name.0 (take i lines) then d.place ∷ [] else [])))
+    (first_of (breaches_at S1 (redeclared (take (i + 1) lines) (drop (i + 1) lines))))
 redeclared-more lines i d h e =
     ap (λ rest. first_of (breaches_at S1 (redeclared (take i lines) rest))) (drop_more lines i d h ∙ ap (λ x. x ∷ drop (i + 1) lines) (sym e))
     ∙ ap first_of (map-append (λ p. record { rule = S1; place = p }) here (redeclared (take i lines ++ d ∷ []) (drop (i + 1) lines)))
     ∙ first_of-append (breaches_at S1 here) (breaches_at S1 (redeclared (take i lines ++ d ∷ []) (drop (i + 1) lines)))
     ∙ ap (λ seen. earlier (first_of (breaches_at S1 here)) (first_of (breaches_at S1 (redeclared seen (drop (i + 1) lines)))))
-        (sym (take_more lines i d h ∙ ap (λ x. take i lines ++ x ∷ []) (sym e)))
+    (sym (take_more lines i d h ∙ ap (λ x. take i lines ++ x ∷ []) (sym e)))
   where
     here : List Place
     here = if is_declared d.name.0 (take i lines) then d.place ∷ [] else []
@@ -73,11 +73,11 @@ pub found-more : (lines : List PredLine) (i : ℕ) (d : PredLine) (keys : List �
     → ((c : ℕ) → list_any (nat_eq c) keys ≡ is_declared c (take i lines)) → added ≡ not (list_any (nat_eq d.name.0) keys)
     → next ≡ first_of (breaches_at S1 (if not added then d.place ∷ [] else [])) → later ≡ earlier found next
     → earlier found (first_of (breaches_at S1 (redeclared (take i lines) (drop i lines))))
-      ≡ earlier later (first_of (breaches_at S1 (redeclared (take (i + 1) lines) (drop (i + 1) lines))))
+    ≡ earlier later (first_of (breaches_at S1 (redeclared (take (i + 1) lines) (drop (i + 1) lines))))
 found-more lines i d keys added found next later h e same a here both =
     let known : not added ≡ is_declared d.name.0 (take i lines) = ap not a ∙ not-not (list_any (nat_eq d.name.0) keys) ∙ same d.name.0 in
     let first : next ≡ first_of (breaches_at S1 (if is_declared d.name.0 (take i lines) then d.place ∷ [] else [])) =
-        here ∙ ap (λ b. first_of (breaches_at S1 (if b then d.place ∷ [] else []))) known in
+    here ∙ ap (λ b. first_of (breaches_at S1 (if b then d.place ∷ [] else []))) known in
     let rest : Option Breach = first_of (breaches_at S1 (redeclared (take (i + 1) lines) (drop (i + 1) lines))) in
     ap (earlier found) (redeclared-more lines i d h e ∙ ap (λ o. earlier o rest) (sym first)) ∙ sym (earlier-assoc found next rest) ∙ ap (λ o. earlier o rest) (sym both)
 
@@ -97,11 +97,14 @@ position-cons : {A : Type 0} (p : A → Bool) (x : A) (xs : List A) → position
 position-cons p x xs = of (p x) (position_or_len p xs) (length xs) where
   origin : Option ℕ
   origin = Some 0
+
   start : (m : ℕ) → (if nat_lt 0 (suc m) then origin else None) ≡ origin
   start m = grind (arith, nat_tests)
+
   down : (n m : ℕ) (b : Bool) → nat_lt n m ≡ b → (if nat_lt (1 + n) (suc m) then Some (1 + n) else None) ≡ option_map suc (if b then Some n else None)
   down n m true q = grind (arith, nat_tests)
   down n m false q = grind (arith, nat_tests)
+
   of : (b : Bool) (n m : ℕ) → (if nat_lt (if not b then 1 + n else 0) (suc m) then Some (if not b then 1 + n else 0) else None)
       ≡ (if b then Some 0 else option_map suc (if nat_lt n m then Some n else None))
   of true n m = start m

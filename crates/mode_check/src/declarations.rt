@@ -38,7 +38,10 @@ pub fn first_reserved(lines: &[PredLine]) -> Option<Breach>
 {
     let mut found = None;
     for line in lines {
-        found = earlier(found, breach_if(is_reserved(line.name), StaticRule::S5, line.place));
+        found = earlier(
+            found,
+            breach_if(is_reserved(line.name), StaticRule::S5, line.place),
+        );
     }
     found
 }

@@ -14,3 +14,6 @@ mod variables;
 
 pub use admission::check;
 pub use error::StaticError;
+
+#[cfg(test)]
+mod tests;

@@ -67,7 +67,10 @@ fn first_marked(usable: &[bool], vars: &[Place]) -> Option<Breach>
 {
     let mut found = None;
     for index in 0..usable.len().min(vars.len()) {
-        found = earlier(found, breach_if(!usable[index], StaticRule::S4, vars[index]));
+        found = earlier(
+            found,
+            breach_if(!usable[index], StaticRule::S4, vars[index]),
+        );
     }
     found
 }

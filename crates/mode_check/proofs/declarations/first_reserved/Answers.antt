@@ -7,6 +7,6 @@ use Rattle.mode_check.proofs.declarations.first_reserved.Goals as goal
 pub loop-line-preserved : goal.loop-line-preserved
 loop-line-preserved c =
     next-first line_breaches c.args.lines.now c.loop-line.line-index c.line-item.result c.loop-line.found c.breach_if.result c.earlier-found.result
-      c.loop-line-test.true c.line-item.is c.loop-line.invariant
-      (c.breach_if.ensures ∙ ap (λ b. first_of (breaches_at S5 (if b then c.line-item.result.place ∷ [] else []))) c.is_reserved.ensures)
-      c.earlier-found.ensures
+    c.loop-line-test.true c.line-item.is c.loop-line.invariant
+    (c.breach_if.ensures ∙ ap (λ b. first_of (breaches_at S5 (if b then c.line-item.result.place ∷ [] else []))) c.is_reserved.ensures)
+    c.earlier-found.ensures

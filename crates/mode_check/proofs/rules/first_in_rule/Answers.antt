@@ -12,7 +12,7 @@ returns c =
     ∙ ap (λ o. earlier (earlier o c.in_ok-unaligned.unaligned) c.first_untested.result) many
     ∙ ap (λ o. earlier (earlier (first_of (breaches_at S6 (if has_many_heads r then r.places.rule ∷ [] else []))) o) c.first_untested.result) c.in_ok-unaligned.ensures
     ∙ ap (earlier (earlier (first_of (breaches_at S6 (if has_many_heads r then r.places.rule ∷ [] else [])))
-        (first_of (breaches_at S7 (where_true (is_unaligned (goals_of r)) (zip r.pairs r.places.pairs)))))) c.first_untested.ensures
+    (first_of (breaches_at S7 (where_true (is_unaligned (goals_of r)) (zip r.pairs r.places.pairs)))))) c.first_untested.ensures
     ∙ first-three (breaches_at S6 (if has_many_heads r then r.places.rule ∷ [] else []))
-        (breaches_at S7 (where_true (is_unaligned (goals_of r)) (zip r.pairs r.places.pairs)))
-        (breaches_at S8 (where_true (λ t. not (is_test t)) (zip r.tests r.places.tests)))
+    (breaches_at S7 (where_true (is_unaligned (goals_of r)) (zip r.pairs r.places.pairs)))
+    (breaches_at S8 (where_true (λ t. not (is_test t)) (zip r.tests r.places.tests)))

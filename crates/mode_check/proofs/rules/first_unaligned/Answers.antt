@@ -11,8 +11,8 @@ loop-index-preserved c =
     let within : c.loop-index.index < length c.as_slice-pairs.result.now = omega (arith, c.min-index-end.ensures) in
     let placed : c.loop-index.index < length c.as_slice-places.result.now = omega (arith, c.min-index-end.ensures) in
     unaligned-more (goals_of c.args.rule.now) c.in_ok-heads.heads c.as_slice-pairs.result.now c.as_slice-places.result.now c.loop-index.index _ _ _
-      c.loop-index.found c.breach_if.result c.earlier-found.result c.breach_if.ensures c.is_unaligned-broken.ensures c.in_ok-heads.ensures
-      within placed c.loop-index.invariant c.earlier-found.ensures
+    c.loop-index.found c.breach_if.result c.earlier-found.result c.breach_if.ensures c.is_unaligned-broken.ensures c.in_ok-heads.ensures
+    within placed c.loop-index.invariant c.earlier-found.ensures
 
 pub returns : goal.returns
 returns c =

@@ -9,8 +9,8 @@ loop-index-preserved c =
     let within : c.loop-index.index < length c.as_slice-tests.result.now = omega (arith, c.min-index-end.ensures) in
     let placed : c.loop-index.index < length c.as_slice-places.result.now = omega (arith, c.min-index-end.ensures) in
     marked-more S8 (λ t. not (is_test t)) c.as_slice-tests.result.now c.as_slice-places.result.now c.loop-index.index c.index-tests-index.result _ _
-      c.loop-index.found c.breach_if.result c.earlier-found.result c.breach_if.ensures (ap not c.is_test-broken.ensures) c.index-tests-index.is
-      within placed c.loop-index.invariant c.earlier-found.ensures
+    c.loop-index.found c.breach_if.result c.earlier-found.result c.breach_if.ensures (ap not c.is_test-broken.ensures) c.index-tests-index.is
+    within placed c.loop-index.invariant c.earlier-found.ensures
 
 pub returns : goal.returns
 returns c =
