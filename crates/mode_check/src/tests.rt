@@ -1,6 +1,5 @@
 //! Programs that break a rule, with the first breach, and programs that break none.
-
-ghost use Rattle.std.specs.Prelude.{◌≡◌, [], ◌∷◌, false, IfOk};
+ghost use Rattle.std.specs.Prelude.{◌≡◌, ◌∷◌, [], false, IfOk};
 ghost use Rattle.lp_resolve.specs.WellFormed.{IsWellFormed};
 
 use crate::admission::first_breach;
@@ -27,25 +26,19 @@ const P: usize = 25;
 
 const Q: usize = 26;
 
-const A: usize = 27;
+// A broken rule, with its file and its byte, if one is broken.
+type Answer = Result<Option<(StaticRule, u32, usize)>, AllocError>;
 
 // The place of a byte in the first file.
 fn at(byte: usize) -> Place {
     Place { file: 0, at: byte }
 }
 
-// These places in the first file.
-fn places(alloc: Global, bytes: &[usize]) -> Result<Sequence<Place>, AllocError> {
+// A list of one item.
+fn one<T: Drop>(alloc: Global, item: T) -> Result<Sequence<T>, AllocError> {
     let mut answer = Sequence::new(alloc);
-    for byte in bytes {
-        answer.push(at(*byte))?;
-    }
+    answer.push(item)?;
     Ok(answer)
-}
-
-// A head with these arguments.
-fn with<const N: usize>(alloc: Global, head: Head, args: [Tree; N]) -> Result<Tree, AllocError> {
-    Ok(Tree::Ap(head, Args::from_vec(Vec::from_array(alloc, args)?)))
 }
 
 // A head alone.
@@ -58,24 +51,19 @@ fn constant(alloc: Global, symbol: usize) -> Tree {
     alone(alloc, Head::Con(Sym(symbol)))
 }
 
-// A constant with a variable as its one argument.
-fn of_variable(alloc: Global, symbol: usize, variable: usize) -> Result<Tree, AllocError> {
-    with(
-        alloc,
-        Head::Con(Sym(symbol)),
-        [alone(alloc, Head::ClauseVar(variable))],
-    )
+// A head with one argument, which is another head alone.
+fn applied(alloc: Global, head: Head, argument: Head) -> Result<Tree, AllocError> {
+    Ok(Tree::Ap(head, one(alloc, alone(alloc, argument))?))
 }
 
-// `p (x\ y\ X S)`, with these bound names as S.
-fn under_two<const N: usize>(alloc: Global, spine: [usize; N]) -> Result<Tree, AllocError> {
-    let mut names = Args::new(alloc);
-    for name in spine {
-        names.push(alone(alloc, Head::Bound(name)))?;
-    }
-    let inner = Tree::Lam(Boxed::new(alloc, Tree::Ap(Head::ClauseVar(0), names))?);
-    let outer = Tree::Lam(Boxed::new(alloc, inner)?);
-    with(alloc, Head::Con(Sym(P)), [outer])
+// `p (x\ y\ X S)`, with two bound names as S.
+fn under_two(alloc: Global, left: usize, right: usize) -> Result<Tree, AllocError> {
+    let mut spine = one(alloc, alone(alloc, Head::Bound(left)))?;
+    spine.push(alone(alloc, Head::Bound(right)))?;
+    let inner = Boxed::new(alloc, Tree::Ap(Head::ClauseVar(0), spine))?;
+    let outer = Boxed::new(alloc, Tree::Lam(inner))?;
+    let args = one(alloc, Tree::Lam(outer))?;
+    Ok(Tree::Ap(Head::Con(Sym(P)), args))
 }
 
 // The empty program.
@@ -90,111 +78,23 @@ fn empty(alloc: Global) -> Program
     }
 }
 
-// One argument, an output.
-fn one_output(alloc: Global) -> Result<Sequence<bool>, AllocError>
-    ensures { IfOk result (λ inputs. inputs ≡ false ∷ []) }
-{
-    let mut inputs = Sequence::new(alloc);
-    inputs.push(false)?;
-    Ok(inputs)
-}
-
-// Puts a declaration of a predicate with one argument last.
+// Puts a declaration last, of a predicate with one argument, which is an output.
 fn declare(
     alloc: Global,
     program: &mut Program,
     symbol: usize,
     place: Place,
 ) -> Result<(), AllocError> {
-    let declared = true;
-    let inputs = one_output(alloc)?;
-    program
-        .preds
-        .insert(Sym(symbol), Pred { declared, inputs })?;
     let name = Sym(symbol);
-    let inputs = one_output(alloc)?;
+    let inputs = one(alloc, false)?;
     program.decls.push(PredLine {
         name,
         place,
         inputs,
     })?;
-    Ok(())
-}
-
-// The program of one declaration and of one clause without body, whose variables have these tokens.
-fn declared_and(
-    alloc: Global,
-    symbol: usize,
-    head: Tree,
-    place: usize,
-    vars: &[usize],
-) -> Result<Program, AllocError> {
-    let mut program = empty(alloc);
-    declare(alloc, &mut program, symbol, at(5))?;
-    let vars = places(alloc, vars)?;
-    let (first, head_place) = (at(place), at(place));
-    let clause = ClauseTree {
-        vars: vars.len(),
-        head,
-        body: None,
-        places: ClausePlaces {
-            first,
-            head: head_place,
-            vars,
-        },
-    };
-    program.clauses.push(clause)?;
-    Ok(program)
-}
-
-// The program of one rule, `rule H1 .. Hn > X ~ Y | T`, with all heads kept, at the bytes 0, 10, 20, .., then 80 and 90.
-fn ruled<const N: usize>(
-    alloc: Global,
-    goals: [Tree; N],
-    (left, right): (usize, usize),
-    test: Tree,
-) -> Result<Program, AllocError> {
-    let mut kept = Sequence::new(alloc);
-    let mut heads = Sequence::new(alloc);
-    let mut vars = Sequence::new(alloc);
-    for (index, goal) in Vec::from_array(alloc, goals)?.into_iter().enumerate() {
-        let context = None;
-        kept.push(HeadTree { context, goal })?;
-        heads.push(at(10 * (index % 7) + 10))?;
-        vars.push(places(alloc, &[10 * (index % 7) + 12])?)?;
-    }
-    let mut pairs = Sequence::new(alloc);
-    pairs.push(PairTree { left, right })?;
-    let mut tests = Sequence::new(alloc);
-    tests.push(test)?;
-    let places = RulePlaces {
-        rule: at(0),
-        heads,
-        vars,
-        pairs: places(alloc, &[80])?,
-        tests: places(alloc, &[90])?,
-    };
-    let rule = RuleTree {
-        names: Sequence::new(alloc),
-        vars: 4,
-        kept,
-        removed: Sequence::new(alloc),
-        pairs,
-        tests,
-        body: None,
-        places,
-    };
-    let mut program = empty(alloc);
-    program.rules.push(rule)?;
-    Ok(program)
-}
-
-// The first breach of a program, as its rule, its file and its byte.
-fn seen(alloc: Global, program: &Program) -> Result<Option<(StaticRule, u32, usize)>, AllocError> {
-    match first_breach(alloc, program)? {
-        Some(breach) => Ok(Some(shown(&breach))),
-        None => Ok(None),
-    }
+    let inputs = one(alloc, false)?;
+    let declared = true;
+    program.preds.insert(name, Pred { declared, inputs })
 }
 
 // A breach as its rule, its file and its byte.
@@ -202,26 +102,118 @@ fn shown(breach: &Breach) -> (StaticRule, u32, usize) {
     (breach.rule(), breach.place().file, breach.place().at)
 }
 
+// The first breach of a program, as its rule, its file and its byte.
+fn seen(alloc: Global, program: &Program) -> Answer {
+    match first_breach(alloc, program)? {
+        Some(breach) => Ok(Some(shown(&breach))),
+        None => Ok(None),
+    }
+}
+
+// That of declarations of these names at these places.
+fn seen_lines(alloc: Global, lines: &[(usize, Place)]) -> Answer {
+    let mut program = empty(alloc);
+    for (symbol, place) in lines {
+        declare(alloc, &mut program, *symbol, *place)?;
+    }
+    seen(alloc, &program)
+}
+
+// A clause without body at byte 20, with at most one variable, at byte 23.
+fn clause(alloc: Global, head: Tree) -> Result<ClauseTree, AllocError> {
+    let (first, head_place) = (at(20), at(20));
+    let vars = one(alloc, at(23))?;
+    let places = ClausePlaces {
+        first,
+        head: head_place,
+        vars,
+    };
+    Ok(ClauseTree {
+        vars: 1,
+        head,
+        body: None,
+        places,
+    })
+}
+
+// That of a clause with this head after a declaration of `p` with one argument.
+fn seen_head(alloc: Global, head: Tree) -> Answer {
+    let mut program = empty(alloc);
+    declare(alloc, &mut program, P, at(5))?;
+    program.clauses.push(clause(alloc, head)?)?;
+    seen(alloc, &program)
+}
+
+// The places of so many heads with one variable each, of one pair and of one test, at the bytes 0, 10, 12, 80 and 90.
+fn rule_places(alloc: Global, count: usize) -> Result<RulePlaces, AllocError> {
+    let mut heads = Sequence::new(alloc);
+    let mut vars = Sequence::new(alloc);
+    for _ in 0..count {
+        heads.push(at(10))?;
+        vars.push(one(alloc, at(12))?)?;
+    }
+    Ok(RulePlaces {
+        rule: at(0),
+        heads,
+        vars,
+        pairs: one(alloc, at(80))?,
+        tests: one(alloc, at(90))?,
+    })
+}
+
+// So many heads `p X`, each with a variable of its own.
+fn rule_heads(alloc: Global, count: usize) -> Result<Sequence<HeadTree>, AllocError> {
+    let mut heads = Sequence::new(alloc);
+    for variable in 0..count {
+        let context = None;
+        let goal = applied(alloc, Head::Con(Sym(P)), Head::ClauseVar(variable))?;
+        heads.push(HeadTree { context, goal })?;
+    }
+    Ok(heads)
+}
+
+// That of a rule with so many heads, kept and removed, a pair and a test.
+fn seen_rule(alloc: Global, heads: (usize, usize), pair: PairTree, test: Tree) -> Answer {
+    let (kept, removed) = heads;
+    let places = rule_places(alloc, kept.saturating_add(removed))?;
+    let rule = RuleTree {
+        names: Sequence::new(alloc),
+        vars: 4,
+        kept: rule_heads(alloc, kept)?,
+        removed: rule_heads(alloc, removed)?,
+        pairs: one(alloc, pair)?,
+        tests: one(alloc, test)?,
+        body: None,
+        places,
+    };
+    let mut program = empty(alloc);
+    program.rules.push(rule)?;
+    seen(alloc, &program)
+}
+
+// That of a rule with two kept heads `p X` and `p Y`, with the test `T X`.
+fn seen_pair(alloc: Global, left: usize, right: usize, symbol: usize) -> Answer {
+    let test = applied(alloc, Head::Con(Sym(symbol)), Head::ClauseVar(0))?;
+    seen_rule(alloc, (2, 0), PairTree { left, right }, test)
+}
+
 #[test]
 fn names_are_declared_once_over_all_files(rt: HostRuntime) -> Result<(), AllocError> {
     let alloc = rt.alloc();
-    for (file, byte) in [(0, 17), (1, 5)] {
-        let mut program = empty(alloc);
-        declare(alloc, &mut program, P, at(5))?;
-        declare(alloc, &mut program, Q, at(40))?;
-        assert_eq!(rt; seen(alloc, &program)?, None);
-        declare(alloc, &mut program, P, Place { file, at: byte })?;
-        assert_eq!(rt; seen(alloc, &program)?, Some((StaticRule::S1, file, byte)));
-    }
-    for (symbol, broken) in [(0, true), (TIMES, true), (NONVAR, false)] {
-        let mut program = empty(alloc);
-        declare(alloc, &mut program, symbol, at(5))?;
-        let expected = if broken {
-            Some((StaticRule::S5, 0, 5))
-        } else {
-            None
-        };
-        assert_eq!(rt; seen(alloc, &program)?, expected);
+    let other = Place { file: 1, at: 5 };
+    for (lines, expected) in [
+        ([(P, at(5)), (Q, at(17))], None),
+        ([(P, at(5)), (P, at(17))], Some((StaticRule::S1, 0, 17))),
+        ([(P, at(9)), (P, other)], Some((StaticRule::S1, 1, 5))),
+        ([(P, at(5)), (0, at(17))], Some((StaticRule::S5, 0, 17))),
+        ([(TIMES, at(5)), (P, at(17))], Some((StaticRule::S5, 0, 5))),
+        (
+            [(TIMES, at(5)), (TIMES, at(17))],
+            Some((StaticRule::S5, 0, 5)),
+        ),
+        ([(NONVAR, at(5)), (P, at(17))], None),
+    ] {
+        assert_eq!(rt; seen_lines(alloc, &lines)?, expected);
     }
     Ok(())
 }
@@ -229,98 +221,58 @@ fn names_are_declared_once_over_all_files(rt: HostRuntime) -> Result<(), AllocEr
 #[test]
 fn heads_are_atoms_over_patterns(rt: HostRuntime) -> Result<(), AllocError> {
     let alloc = rt.alloc();
-    let flexible = with(alloc, Head::ClauseVar(0), [constant(alloc, A)])?;
-    let program = declared_and(alloc, Q, flexible, 20, &[20])?;
-    assert_eq!(rt; seen(alloc, &program)?, Some((StaticRule::S2, 0, 20)));
-
-    let program = declared_and(alloc, P, constant(alloc, P), 20, &[])?;
-    assert_eq!(rt; seen(alloc, &program)?, Some((StaticRule::S3, 0, 20)));
-
-    let applied = with(alloc, Head::ClauseVar(0), [constant(alloc, A)])?;
-    let head = with(alloc, Head::Con(Sym(P)), [applied])?;
-    let program = declared_and(alloc, P, head, 20, &[23])?;
-    assert_eq!(rt; seen(alloc, &program)?, Some((StaticRule::S4, 0, 23)));
-
-    let program = declared_and(alloc, Q, constant(alloc, FAIL), 20, &[])?;
-    assert_eq!(rt; seen(alloc, &program)?, Some((StaticRule::S5, 0, 20)));
-
-    for (spine, expected) in [
-        ([1, 0], None),
-        ([0, 1], None),
-        ([1, 1], Some((StaticRule::S4, 0, 29))),
-    ] {
-        let program = declared_and(alloc, P, under_two(alloc, spine)?, 20, &[29])?;
-        assert_eq!(rt; seen(alloc, &program)?, expected);
-    }
+    let flexible = applied(alloc, Head::ClauseVar(0), Head::Con(Sym(Q)))?;
+    assert_eq!(rt; seen_head(alloc, flexible)?, Some((StaticRule::S2, 0, 20)));
+    assert_eq!(rt;
+        seen_head(alloc, constant(alloc, P))?,
+        Some((StaticRule::S3, 0, 20))
+    );
+    assert_eq!(rt;
+        seen_head(alloc, constant(alloc, FAIL))?,
+        Some((StaticRule::S5, 0, 20))
+    );
+    assert_eq!(rt; seen_head(alloc, constant(alloc, Q))?, None);
+    let inner = applied(alloc, Head::ClauseVar(0), Head::Con(Sym(Q)))?;
+    let head = Tree::Ap(Head::Con(Sym(P)), one(alloc, inner)?);
+    assert_eq!(rt; seen_head(alloc, head)?, Some((StaticRule::S4, 0, 23)));
+    assert_eq!(rt; seen_head(alloc, under_two(alloc, 1, 0)?)?, None);
+    assert_eq!(rt;
+        seen_head(alloc, under_two(alloc, 1, 1)?)?,
+        Some((StaticRule::S4, 0, 23))
+    );
     Ok(())
 }
 
 #[test]
 fn rules_have_few_heads_aligned_pairs_and_known_tests(rt: HostRuntime) -> Result<(), AllocError> {
     let alloc = rt.alloc();
-    for (pair, test, expected) in [
-        ((0, 1), (VAR, 1), None),
-        ((1, 0), (VAR, 1), Some((StaticRule::S7, 0, 80))),
-        ((0, 0), (VAR, 1), Some((StaticRule::S7, 0, 80))),
-        ((0, 3), (VAR, 1), Some((StaticRule::S7, 0, 80))),
-        ((0, 1), (P, 1), Some((StaticRule::S8, 0, 90))),
-        ((0, 1), (VAR, 0), Some((StaticRule::S8, 0, 90))),
+    for (left, right, symbol, expected) in [
+        (0, 1, VAR, None),
+        (0, 1, NONVAR, None),
+        (1, 0, VAR, Some((StaticRule::S7, 0, 80))),
+        (0, 0, VAR, Some((StaticRule::S7, 0, 80))),
+        (0, 3, VAR, Some((StaticRule::S7, 0, 80))),
+        (0, 1, P, Some((StaticRule::S8, 0, 90))),
     ] {
-        let (symbol, arity) = test;
-        let test = if arity == 0 {
-            constant(alloc, symbol)
-        } else {
-            of_variable(alloc, symbol, 0)?
-        };
-        let goals = [of_variable(alloc, P, 0)?, of_variable(alloc, Q, 1)?];
-        let program = ruled(alloc, goals, pair, test)?;
-        assert_eq!(rt; seen(alloc, &program)?, expected);
+        assert_eq!(rt; seen_pair(alloc, left, right, symbol)?, expected);
     }
-    let four = [
-        of_variable(alloc, P, 0)?,
-        of_variable(alloc, P, 1)?,
-        of_variable(alloc, P, 2)?,
-        of_variable(alloc, P, 3)?,
-    ];
-    let program = ruled(alloc, four, (0, 1), of_variable(alloc, VAR, 0)?)?;
-    assert_eq!(rt; seen(alloc, &program)?, Some((StaticRule::S6, 0, 0)));
+    let pair = PairTree { left: 0, right: 1 };
+    let test = constant(alloc, VAR);
+    assert_eq!(rt;
+        seen_rule(alloc, (2, 1), pair, test)?,
+        Some((StaticRule::S8, 0, 90))
+    );
+    let test = constant(alloc, VAR);
+    assert_eq!(rt;
+        seen_rule(alloc, (3, 1), pair, test)?,
+        Some((StaticRule::S6, 0, 0))
+    );
     Ok(())
 }
 
-// The program of two declarations of one name, the second one in this file.
-fn declared_twice(alloc: Global, file: u32) -> Result<Program, AllocError>
-    ensures { IfOk result IsWellFormed }
-{
-    let mut program = empty(alloc);
-    let declared = true;
-    let inputs = one_output(alloc)?;
-    program.preds.insert(Sym(P), Pred { declared, inputs })?;
-    for byte in [5, 17] {
-        let name = Sym(P);
-        let place = Place { file, at: byte };
-        let inputs = one_output(alloc)?;
-        program.decls.push(PredLine {
-            name,
-            place,
-            inputs,
-        })?;
-    }
-    Ok(program)
-}
-
 #[test]
-fn programs_are_admitted_or_refused(rt: HostRuntime) -> Result<(), AllocError> {
-    let alloc = rt.alloc();
-    match check(alloc, empty(alloc)) {
-        Ok(checked) => assert_eq!(rt; checked.program().decls.len(), 0),
-        Err(_) => assert!(rt; false),
-    }
-    match check(alloc, declared_twice(alloc, 1)?) {
-        Err(StaticError::Broken(StaticRule::S1, place)) => assert_eq!(rt;
-            place,
-            Place { file: 1, at: 17 }
-        ),
-        _ => assert!(rt; false),
-    }
+fn programs_are_admitted(rt: HostRuntime) -> Result<(), StaticError> {
+    let checked = check(rt.alloc(), empty(rt.alloc()))?;
+    assert_eq!(rt; checked.program().decls.len(), 0);
     Ok(())
 }
