@@ -1,3 +1,4 @@
+pub mod Build
 pub mod Gathered
 pub mod Heads
 pub mod Occurrences
@@ -6,10 +7,16 @@ pub mod Plain
 pub mod Preds
 pub mod ProgramReading
 pub mod ProgramTexts
+pub mod Queries
 pub mod Reading
+pub mod Reads
+pub mod ReadsAs
+pub mod Replacing
+pub mod Scopes
 pub mod StaticRules
 pub mod Symbols
 pub mod Texts
+pub mod Treed
 pub mod Trees
 pub mod Variables
 pub mod WellFormed

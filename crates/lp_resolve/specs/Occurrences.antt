@@ -2,6 +2,7 @@
 use Rattle.std.specs.Prelude.{ℕ, Bool, true, false, ◌&&◌, not, nat_eq, List, [], ◌∷◌, ◌++◌, map, flat_map, Option, Some, None}
 use Rattle.std.specs.List.{list_any}
 use Rattle.ref_terms.specs.declared.tree.Tree.{Tree, fold-Tree}
+use Rattle.ref_terms.specs.declared.tree.Head.{Head, fold-Head}
 use Rattle.ref_terms.specs.declared.tree.Head.TheOpen.{Head-F, Tree-F}
 
 -- a variable at one of its places, and for each argument there the index of the bound name that it is, if it is one
@@ -52,6 +53,10 @@ walked_at (Tree-F.Ap head args) = record {
 -- what is known of a tree
 abbrev pub walked : Tree → Walked
 walked = fold-Tree Front Walked front_at walked_at
+
+-- what is known of a head
+abbrev pub head_walked : Head → Front
+head_walked = fold-Head Front Walked front_at walked_at
 
 -- the variables of a tree at their places, from the left
 abbrev pub occurrences : Tree → List Occurrence

@@ -40,11 +40,15 @@ decl_texts (KindDecl names arrows) = []
 decl_texts (TypeDecl names ty) = []
 decl_texts (PredDecl name args) = name.text ∷ []
 
+-- the texts of a block
+abbrev pub block_texts : Block → List (List ℕ)
+block_texts b = map (λ w. w.text) b.names ++ flat_map rule_texts b.rules
+
 -- the texts of an item
 abbrev pub item_texts : Item → List (List ℕ)
 item_texts (item.Decl d) = decl_texts d
 item_texts (item.Clause c) = texts_of c.term
-item_texts (item.Block b) = map (λ w. w.text) b.names ++ flat_map rule_texts b.rules
+item_texts (item.Block b) = block_texts b
 
 -- the texts of a program
 abbrev pub program_texts : List Item → List (List ℕ)

@@ -1,5 +1,5 @@
 -- The variables of a clause, a rule or a query.
-use Rattle.std.specs.Prelude.{ℕ, Bool, true, false, not, ◌&&◌, nat_eq, List, [], ◌∷◌, ◌++◌, length, if◌then◌else◌}
+use Rattle.std.specs.Prelude.{◌≡◌, ℕ, Bool, true, false, not, ◌&&◌, nat_eq, List, [], ◌∷◌, ◌++◌, length, Option, position, if◌then◌else◌}
 use Rattle.std.specs.List.{list_any, position_or_len}
 use Rattle.lp_parser.specs.declared.ast.Place.{Place}
 use Rattle.lp_resolve.specs.declared.variable.Variable.{Variable}
@@ -41,3 +41,7 @@ met_word word place met = record { names = with_word word met.names; places = me
 -- what was met, with a hole at its place
 abbrev pub met_hole : (word : ℕ) → Place → Met → Met
 met_hole word place met = record { names = with_hole word met.names; places = met.places ++ place ∷ [] }
+
+-- a map from words to the numbers of their variables
+abbrev pub AreNumbered : List Variable → (ℕ → Option ℕ) → Type 0
+AreNumbered names numbers = (word : ℕ) → numbers word ≡ position (is_of word) names

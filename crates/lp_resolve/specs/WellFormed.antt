@@ -1,4 +1,4 @@
--- Well-formed programs and queries.
+-- Well-formed programs.
 use Rattle.std.specs.Prelude.{◌≡◌, ℕ, ◌<◌, List, length, map, All, Option, IfSome}
 use Rattle.ref_terms.specs.declared.tree.Tree.{Tree}
 use Rattle.lp_resolve.specs.declared.program.Program.{Program}
@@ -6,7 +6,6 @@ use Rattle.lp_resolve.specs.declared.program.ClauseTree.{ClauseTree}
 use Rattle.lp_resolve.specs.declared.program.HeadTree.{HeadTree}
 use Rattle.lp_resolve.specs.declared.program.PairTree.{PairTree}
 use Rattle.lp_resolve.specs.declared.program.RuleTree.{RuleTree}
-use Rattle.lp_resolve.specs.declared.query.Query.{Query}
 use Rattle.lp_resolve.specs.Gathered.{gathered}
 use Rattle.lp_resolve.specs.Occurrences.{occurrences}
 use Rattle.lp_resolve.specs.StaticRules.{heads_of, goals_of}
@@ -14,7 +13,7 @@ use Rattle.lp_resolve.specs.Trees.{IsFormed}
 
 -- a tree over so many variables, with no name bound around it
 abbrev pub IsFormedOver : (vars : ℕ) → Tree → Type 0
-IsFormedOver vars t = IsFormed 0 vars t
+IsFormedOver vars t = IsFormed vars 0 t
 
 -- a clause
 pub record IsClauseFormed (c : ClauseTree) : Type 0 where
@@ -48,7 +47,3 @@ pub record IsWellFormed (p : Program) : Type 0 where
   pub clauses : All IsClauseFormed p.clauses
   pub rules : All IsRuleFormed p.rules
   pub preds : p.preds ≡ gathered p.decls p.clauses
-
--- a query
-pub record IsQueryFormed (q : Query) : Type 0 where
-  pub goal : IsFormedOver (length q.vars) q.goal

@@ -5,6 +5,8 @@ ghost use Rattle.lp_resolve.specs.ProgramTexts.{program_texts};
 ghost use Rattle.lp_resolve.specs.ProgramReading.{program_of};
 ghost use Rattle.lp_resolve.specs.WellFormed.{IsWellFormed};
 
+use crate::gather::gather;
+use crate::items::{ItemLists, read_items};
 use crate::program::Program;
 use crate::symbols::Symbols;
 use lp_parser::Ast;
@@ -15,15 +17,26 @@ use std::alloc::{AllocError, Global};
 ///
 /// Errors: want of memory.
 pub fn resolve_program(
-    _alloc: Global,
-    _ast: &Ast,
+    alloc: Global,
+    ast: &Ast,
     symbols: &mut Symbols,
 ) -> Result<Program, AllocError>
     ensures begins { Begins symbols.old symbols.new }
-    ensures table { OnOk result (symbols.new ≡ interned_all symbols.old (program_texts _ast.now)) }
-    ensures program { IfOk result (λ program. program ≡ program_of symbols.new _ast.now) }
+    ensures table { OnOk result (symbols.new ≡ interned_all symbols.old (program_texts ast.now)) }
+    ensures program { IfOk result (λ program. program ≡ program_of symbols.new ast.now) }
     ensures well_formed { IfOk result IsWellFormed }
 {
-    let _ = symbols.len();
-    Err(AllocError)
+    let lists = read_items(alloc, ast.as_slice(), symbols)?;
+    let ItemLists {
+        lines,
+        clauses,
+        rules,
+    } = lists;
+    let preds = gather(alloc, lines.as_slice(), clauses.as_slice())?;
+    Ok(Program {
+        preds,
+        clauses,
+        rules,
+        decls: lines,
+    })
 }
