@@ -32,4 +32,5 @@ pub use resolve::resolve_program;
 pub use read::resolve_query;
 pub use static_rule::StaticRule;
 pub use symbols::Symbols;
+pub use trees::{arity_of, constant_of};
 pub use variable::Variable;
