@@ -7,7 +7,7 @@ use Rattle.lam_io.specs.Reads.{bytes_of}
 use Rattle.lp_parser.specs.declared.ast.Item.{Item}
 use Rattle.elpi_cli.specs.declared.status.Status.TheVariants.{Refused, Missing, TooLong}
 use Rattle.elpi_cli.specs.Output.{Output, line, line_only}
-use Rattle.elpi_cli.specs.Texts.{file_limit, before_files, with_file, files_read, items_of, FileItems, file_of, with_items, items_read}
+use Rattle.elpi_cli.specs.Texts.{file_limit, before_files, with_file, files_read, items_of, FileItems, with_items, items_read}
 use Rattle.elpi_cli.specs.Top.{AreWithin, IsReached}
 use Rattle.elpi_cli.specs.Causes.{AreAccepted}
 
@@ -104,16 +104,6 @@ refused-file-text file (g ∷ before) f after last accepted is =
     accepted-file g.name (items_of g.name file g.bytes) (items_read (file + 1) (before ++ f ∷ after)) (line_only last Refused) accepted.0
     (refused-file-text (file + 1) before f after last accepted.1 (subst (λ (n : ℕ). items_of f.name n f.bytes ≡ Err last) (sym (add-file file g before)) is))
 
--- a text that is accepted, before others that are read
-accepted-all : (name : List ℕ) (found : Result (List Item) (List ℕ)) (later : Result (List FileItems) Output) → IsOk found → (files : List FileItems) × (later ≡ Ok files) → (files : List FileItems) × (with_items name found later ≡ Ok files)
-accepted-all name (Err last) later ok h = absurd (let no : false ≡ true = ok in cc)
-accepted-all name (Ok items) later ok h = (file_of name items ∷ h.0, ap (with_items name (Ok items)) h.1)
-
--- where all texts are accepted, their items are read
-pub accepted-items : (file : ℕ) (files : List FileEntry) → AreAccepted file files → (read : List FileItems) × (items_read file files ≡ Ok read)
-accepted-items file [] accepted = ([], refl)
-accepted-items file (f ∷ fs) accepted = accepted-all f.name (items_of f.name file f.bytes) (items_read (file + 1) fs) accepted.0 (accepted-items (file + 1) fs accepted.1)
-
 -- a file's text is refused with a line, and those before it are accepted
 abbrev pub HasTextRefusal : (file : ℕ) → List FileEntry → Output → Type 0
 HasTextRefusal file files refusal =
@@ -145,16 +135,3 @@ by-items file f fs refusal (Ok items) is go refused = by-later file f fs refusal
 pub refused-text : (file : ℕ) (files : List FileEntry) (refusal : Output) → items_read file files ≡ Err refusal → HasTextRefusal file files refusal
 refused-text file [] refusal is = absurd (cc)
 refused-text file (f ∷ fs) refusal is = by-items file f fs refusal (items_of f.name file f.bytes) refl (refused-text (file + 1) fs) is
-
--- where items are read, the first text is accepted, and the later ones are read
-all-of-both : (name : List ℕ) (found : Result (List Item) (List ℕ)) (later : Result (List FileItems) Output) (read : List FileItems) → with_items name found later ≡ Ok read → IsOk found × ((more : List FileItems) × (later ≡ Ok more))
-all-of-both name (Err last) later read is = absurd (cc)
-all-of-both name (Ok first) (Ok more) read is = (refl, (more, refl))
-all-of-both name (Ok first) (Err other) read is = absurd (cc)
-
--- where items are read, all texts are accepted
-pub all-accepted : (file : ℕ) (files : List FileEntry) (read : List FileItems) → items_read file files ≡ Ok read → AreAccepted file files
-all-accepted file [] read is = tt
-all-accepted file (f ∷ fs) read is =
-    let both = all-of-both f.name (items_of f.name file f.bytes) (items_read (file + 1) fs) read is in
-    (both.0, all-accepted (file + 1) fs both.1.0 both.1.1)

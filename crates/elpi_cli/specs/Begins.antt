@@ -1,23 +1,36 @@
 -- What reading the texts gives the search.
-use Rattle.std.specs.Prelude.{◌≡◌, ℕ, List, true, false, map, ⊤, Ok, Err, codes}
+use Rattle.std.specs.Prelude.{◌≡◌, ℕ, List, [], ◌∷◌, true, false, map, ⊤, None, Some, Ok, Err, codes, if◌then◌else◌}
 use Rattle.std.specs.String.{string_bytes}
 use Rattle.std.specs.declared.result.Result.{Result}
+use Rattle.lam_io.specs.declared.byte_text.FileEntry.{FileEntry}
 use Rattle.lp_lexer.specs.Lexing.{Lexed}
 use Rattle.lp_parser.specs.declared.ast.AstGoal.{AstGoal}
 use Rattle.lp_parser.specs.declared.ast.AstTerm.{AstTerm}
 use Rattle.lp_parser.specs.declared.ast.Item.{Item}
 use Rattle.lp_parser.specs.declared.error.ParseError.{ParseError}
 use Rattle.lp_parser.specs.declared.error.ParseError.TheVariants as parser
+use Rattle.lp_resolve.specs.declared.program.Program.{Program}
+use Rattle.lp_resolve.specs.declared.query.Query.{Query}
+use Rattle.lp_resolve.specs.StaticRules.{Breach, first_breach}
+use Rattle.lp_resolve.specs.Plain.{plain_term, plain_clause}
 use Rattle.elpi_cli.specs.declared.horn.Span.{Span}
 use Rattle.elpi_cli.specs.declared.horn.Horn.{Horn}
+use Rattle.elpi_cli.specs.declared.built.Engine.{Engine}
 use Rattle.elpi_cli.specs.declared.texts.TextStop.{TextStop}
 use Rattle.elpi_cli.specs.declared.texts.TextStop.TheVariants.{Refused, Memory}
+use Rattle.elpi_cli.specs.HornSearch.{running}
 use Rattle.elpi_cli.specs.HornProgram.{span_term, clause_term, IsProgram}
-use Rattle.elpi_cli.specs.Conversion.{IsProgramOf}
-use Rattle.elpi_cli.specs.Symbols.{interned_all}
-use Rattle.elpi_cli.specs.Resolve.{words_of, term_of, is_horn_query, are_built, program_table}
-use Rattle.elpi_cli.specs.Texts.{grammar_name, grammar_line}
-use Rattle.elpi_cli.specs.Built.{not_yet_line}
+use Rattle.elpi_cli.specs.HornOutput.{horn_events, horn_written}
+use Rattle.elpi_cli.specs.Reading.{reading}
+use Rattle.elpi_cli.specs.Output.{line_only, searched}
+use Rattle.elpi_cli.specs.Top.{texts_output}
+use Rattle.elpi_cli.specs.declared.status.Status.TheVariants as Status
+use Rattle.elpi_cli.specs.Conversion.{IsProgramOf, IsQueryOf}
+use Rattle.elpi_cli.specs.Resolved.{program_table, resolved_program, searched_program, searched_query}
+use Rattle.elpi_cli.specs.Forms.{are_built_as, is_horn_query}
+use Rattle.elpi_cli.specs.Texts.{FileItems, all_items, file_of, grammar_name, grammar_line}
+use Rattle.elpi_cli.specs.Built.{unbuilt_query, unbuilt_text, not_yet_line}
+use Rattle.elpi_cli.specs.Static.{breach_line}
 
 -- the text is refused with this line, unless memory is wanting
 abbrev pub IsRefusal : List ℕ → TextStop → Type 0
@@ -45,22 +58,74 @@ abbrev pub IsReadGoal : Result AstTerm (List ℕ) → Result AstGoal TextStop �
 IsReadGoal whole (Ok goal) = whole ≡ Ok goal.term
 IsReadGoal whole (Err stop) = StopsAt whole stop
 
--- what building a program may answer: the program with its table, or the line of its file, where it isn't built
-abbrev pub BuildsProgram : (name : List ℕ) → List Item → (table : List (List ℕ)) → Result Horn TextStop → Type 0
-BuildsProgram name items table (Ok horn) = (table ≡ program_table items) × IsProgramOf table items horn
-BuildsProgram name items table (Err (Refused last)) = (are_built items ≡ false) × (string_bytes last ≡ not_yet_line name)
-BuildsProgram name items table (Err Memory) = ⊤
+-- the program of these items, which breaks no static rule, with its table
+pub record IsCheckedOf (items : List Item) (table : List (List ℕ)) (program : Program) : Type 0 where
+  pub table_is : table ≡ program_table items
+  pub program_is : program ≡ resolved_program items
+  pub unbroken : first_breach (resolved_program items) ≡ None
 
--- the query of this goal, in a program that had other atoms before and reads as it did
-pub record IsQueryOf (goal : AstTerm) (before table : List (List ℕ)) (old horn : Horn) (span : Span) : Type 0 where
-  pub built : is_horn_query goal ≡ true
-  pub is : IsProgram horn
-  pub table_is : table ≡ interned_all before (words_of goal)
-  pub clauses : map (clause_term horn.atoms) horn.clauses ≡ map (clause_term old.atoms) old.clauses
-  pub goal_is : span_term horn.atoms span ≡ term_of table goal
+-- the program of these items breaks a static rule in these files, and the line says so, unless memory is wanting
+abbrev pub IsBroken : List FileEntry → List Item → TextStop → Type 0
+IsBroken files items (Refused last) = (breach : Breach) × (first_breach (resolved_program items) ≡ Some breach) × (string_bytes last ≡ breach_line files breach)
+IsBroken files items Memory = ⊤
+
+-- what checking a program may answer
+abbrev pub ChecksProgram : List FileEntry → List Item → (table : List (List ℕ)) → Result Program TextStop → Type 0
+ChecksProgram files items table (Ok program) = IsCheckedOf items table program
+ChecksProgram files items table (Err stop) = IsBroken files items stop
+
+-- what building a program may answer: the program, or the line of its file, where it isn't built
+abbrev pub BuildsProgram : (name : List ℕ) → List Item → Program → Result Horn TextStop → Type 0
+BuildsProgram name items program (Ok horn) = (are_built_as items program ≡ true) × IsProgramOf program.clauses horn
+BuildsProgram name items program (Err (Refused last)) = (are_built_as items program ≡ false) × (string_bytes last ≡ not_yet_line name)
+BuildsProgram name items program (Err Memory) = ⊤
 
 -- what building a query may answer
-abbrev pub BuildsQuery : AstTerm → (before table : List (List ℕ)) → (old horn : Horn) → Result Span TextStop → Type 0
-BuildsQuery goal before table old horn (Ok span) = IsQueryOf goal before table old horn span
-BuildsQuery goal before table old horn (Err (Refused last)) = (is_horn_query goal ≡ false) × (string_bytes last ≡ not_yet_line (codes "query"))
-BuildsQuery goal before table old horn (Err Memory) = ⊤
+abbrev pub BuildsQuery : Query → (old horn : Horn) → Result Span TextStop → Type 0
+BuildsQuery query old horn (Ok span) = IsQueryOf query old horn span
+BuildsQuery query old horn (Err (Refused last)) = (is_horn_query query ≡ false) × (string_bytes last ≡ not_yet_line (codes "query"))
+BuildsQuery query old horn (Err Memory) = ⊤
+
+-- the engine for this query over this program of these items, all of which are built
+pub record IsEngineFor (items : List Item) (program : Program) (query : Query) (engine : Engine) : Type 0 where
+  pub built : are_built_as items program ≡ true
+  pub query_built : is_horn_query query ≡ true
+  pub program_is : IsProgram engine.horn
+  pub clauses : map (clause_term engine.horn.atoms) engine.horn.clauses ≡ map plain_clause program.clauses
+  pub span : Span
+  pub goal : span_term engine.horn.atoms span ≡ plain_term query.goal
+  pub begins : reading engine.horn engine.machine ≡ running (span ∷ []) []
+
+-- what building it may answer
+abbrev pub BuildsBoth : (name : List ℕ) → List Item → Program → Query → Result Engine TextStop → Type 0
+BuildsBoth name items program query (Ok engine) = IsEngineFor items program query engine
+BuildsBoth name items program query (Err (Refused last)) =
+    (text : List ℕ) × ((if are_built_as items program then unbuilt_query (is_horn_query query) else Some name) ≡ Some text) × (string_bytes last ≡ not_yet_line text)
+BuildsBoth name items program query (Err Memory) = ⊤
+
+-- the one file of this name with these items
+abbrev pub one : (name : List ℕ) → List Item → List FileItems
+one name items = file_of name items ∷ []
+
+-- the search of a goal over the items of a file, which are built
+pub record IsEngineOf (name : List ℕ) (items : List Item) (goal : AstTerm) (engine : Engine) : Type 0 where
+  pub built : unbuilt_text (one name items) goal ≡ None
+  pub output : (steps limit : ℕ) → horn_written limit 0 (horn_events engine.horn steps (reading engine.horn engine.machine))
+      ≡ searched (searched_program (all_items (one name items)) goal) (searched_query (all_items (one name items)) goal) steps limit
+
+-- a text isn't built, and the line names the first, unless memory is wanting
+abbrev pub IsUnbuilt : (name : List ℕ) → List Item → AstTerm → TextStop → Type 0
+IsUnbuilt name items goal (Refused last) = (text : List ℕ) × (unbuilt_text (one name items) goal ≡ Some text) × (string_bytes last ≡ not_yet_line text)
+IsUnbuilt name items goal Memory = ⊤
+
+-- what building the search may answer
+abbrev pub BuildsEngine : (name : List ℕ) → List Item → AstTerm → Result Engine TextStop → Type 0
+BuildsEngine name items goal (Ok engine) = IsEngineOf name items goal engine
+BuildsEngine name items goal (Err stop) = IsUnbuilt name items goal stop
+
+-- The outcome of the texts behind the file's items: the engine, or the line of the first refusal, where all of them give
+-- the output of a run for any limits.
+abbrev pub Begins : FileEntry → List Item → (query : List ℕ) → Result Engine TextStop → Type 0
+Begins file items query (Ok engine) = (steps limit : ℕ) → texts_output steps limit query (file ∷ []) (Ok (one file.name items)) ≡ horn_written limit 0 (horn_events engine.horn steps (reading engine.horn engine.machine))
+Begins file items query (Err (Refused last)) = (steps limit : ℕ) → texts_output steps limit query (file ∷ []) (Ok (one file.name items)) ≡ line_only (string_bytes last) Status.Refused
+Begins file items query (Err Memory) = ⊤

@@ -19,7 +19,9 @@ use Rattle.elpi_cli.specs.declared.status.Status.{Status}
 use Rattle.elpi_cli.specs.declared.status.Status.TheVariants.{ReadFault, WriteFault, Memory}
 use Rattle.elpi_cli.specs.Words.{command}
 use Rattle.elpi_cli.specs.Output.{Output, line}
-use Rattle.elpi_cli.specs.Resolve.{program_of, query_of}
+use Rattle.lp_resolve.specs.StaticRules.{Breach, first_breach}
+use Rattle.elpi_cli.specs.Resolved.{resolved_program, searched_program, searched_query}
+use Rattle.elpi_cli.specs.Static.{breach_line}
 use Rattle.elpi_cli.specs.Texts.{file_limit, files_read, items_of, FileItems, all_items, items_read, goal_of}
 use Rattle.elpi_cli.specs.Built.{unbuilt_text, not_yet_line}
 use Rattle.elpi_cli.specs.Top.{word_at, file_names, IsReached}
@@ -85,34 +87,44 @@ IsRefusedFile files last =
     (before : List FileEntry) × (f : FileEntry) × (after : List FileEntry) × (files ≡ before ++ f ∷ after)
     × AreAccepted 0 before × (items_of f.name (length before) f.bytes ≡ Err last)
 
--- tokens or grammar refuse the query's text with this line, and accept all files
-abbrev pub IsRefusedQuery : List FileEntry → (query last : List ℕ) → Type 0
-IsRefusedQuery files query last = AreAccepted 0 files × (goal_of query ≡ Err last)
+-- tokens and grammar accept all files with these items, and these break no static rule
+abbrev pub AreChecked : List FileEntry → List FileItems → Type 0
+AreChecked files items = (items_read 0 files ≡ Ok items) × (first_breach (resolved_program (all_items items)) ≡ None)
 
--- tokens and grammar accept all texts, and the first that isn't built has this line
+-- tokens and grammar accept all files, and the first static rule that their program breaks has this line
+abbrev pub IsRefusedProgram : List FileEntry → (last : List ℕ) → Type 0
+IsRefusedProgram files last =
+    (items : List FileItems) × (items_read 0 files ≡ Ok items)
+    × (breach : Breach) × (first_breach (resolved_program (all_items items)) ≡ Some breach) × (last ≡ breach_line files breach)
+
+-- tokens or grammar refuse the query's text with this line, and all files are accepted and break no static rule
+abbrev pub IsRefusedQuery : List FileEntry → (query last : List ℕ) → Type 0
+IsRefusedQuery files query last = (items : List FileItems) × AreChecked files items × (goal_of query ≡ Err last)
+
+-- all texts are accepted and break no static rule, and the first that isn't built has this line
 abbrev pub IsUnbuiltText : List FileEntry → (query last : List ℕ) → Type 0
 IsUnbuiltText files query last =
-    (read : List FileItems) × (goal : AstTerm) × (items_read 0 files ≡ Ok read) × (goal_of query ≡ Ok goal)
-    × (name : List ℕ) × (unbuilt_text read goal ≡ Some name) × (last ≡ not_yet_line name)
+    (items : List FileItems) × (goal : AstTerm) × AreChecked files items × (goal_of query ≡ Ok goal)
+    × (name : List ℕ) × (unbuilt_text items goal ≡ Some name) × (last ≡ not_yet_line name)
 
--- all files are read, and the first text that is refused has this line
+-- all files are read, and the first refusal of a text has this line
 abbrev pub IsRefused : List (List ℕ) → List FileEntry → (last : List ℕ) → Type 0
 IsRefused words told last =
     (steps : ℕ) × (answers : ℕ) × (query : List ℕ) × (files : List FileEntry) × IsReady words told steps answers query files
-    × (IsRefusedFile files last ⊎ (IsRefusedQuery files query last ⊎ IsUnbuiltText files query last))
+    × (IsRefusedFile files last ⊎ (IsRefusedProgram files last ⊎ (IsRefusedQuery files query last ⊎ IsUnbuiltText files query last)))
 
 -- the words and the files ask for the search of this query over this program, with at most so many steps and answers
 pub record Searches (words : List (List ℕ)) (told : List FileEntry) (program : Program) (query : Query) (steps answers : ℕ) : Type 0 where
   pub text : List ℕ
   pub files : List FileEntry
-  pub read : List FileItems
+  pub items : List FileItems
   pub goal : AstTerm
   pub ready : IsReady words told steps answers text files
-  pub read_is : items_read 0 files ≡ Ok read
+  pub checked : AreChecked files items
   pub goal_is : goal_of text ≡ Ok goal
-  pub built : unbuilt_text read goal ≡ None
-  pub program_is : program ≡ program_of (all_items read) goal
-  pub query_is : query ≡ query_of (all_items read) goal
+  pub built : unbuilt_text items goal ≡ None
+  pub program_is : program ≡ searched_program (all_items items) goal
+  pub query_is : query ≡ searched_query (all_items items) goal
 
 -- the events of that search, and its answer limit
 abbrev pub Shows : List (List ℕ) → List FileEntry → (limit : ℕ) → List Event → Type 0

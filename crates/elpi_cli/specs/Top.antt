@@ -14,7 +14,9 @@ use Rattle.elpi_cli.specs.declared.status.Status.{Status}
 use Rattle.elpi_cli.specs.declared.status.Status.TheVariants.{Words, Refused, ReadFault, WriteFault, Memory}
 use Rattle.elpi_cli.specs.Words.{command}
 use Rattle.elpi_cli.specs.Output.{Output, line, line_only, searched}
-use Rattle.elpi_cli.specs.Resolve.{program_of, query_of}
+use Rattle.lp_resolve.specs.StaticRules.{Breach, first_breach}
+use Rattle.elpi_cli.specs.Resolved.{resolved_program, searched_program, searched_query}
+use Rattle.elpi_cli.specs.Static.{breach_line}
 use Rattle.elpi_cli.specs.Texts.{file_limit, files_read, goal_of, FileItems, all_items, items_read}
 use Rattle.elpi_cli.specs.Built.{unbuilt_text, not_yet_line}
 use Rattle.elpi_cli.specs.Written.{IsWholePieces}
@@ -26,22 +28,27 @@ word_at words index = slice_index_or words index []
 -- the search of a goal over the items of the files, or the refusal of the text of this name, whose form isn't built
 abbrev pub built_output : (steps answers : ℕ) → List FileItems → AstTerm → Option (List ℕ) → Output
 built_output steps answers files goal (Some name) = line_only (not_yet_line name) Refused
-built_output steps answers files goal None = searched (program_of (all_items files) goal) (query_of (all_items files) goal) steps answers
+built_output steps answers files goal None = searched (searched_program (all_items files) goal) (searched_query (all_items files) goal) steps answers
 
 -- the query over the items of the files, or its refusal
 abbrev pub query_output : (steps answers : ℕ) → List FileItems → Result AstTerm (List ℕ) → Output
 query_output steps answers files (Err last) = line_only last Refused
 query_output steps answers files (Ok goal) = built_output steps answers files goal (unbuilt_text files goal)
 
--- the run over the items of the files, or the refusal of a file's text
-abbrev pub texts_output : (steps answers : ℕ) → List ℕ → Result (List FileItems) Output → Output
-texts_output steps answers query (Err refusal) = refusal
-texts_output steps answers query (Ok files) = query_output steps answers files (goal_of query)
+-- the run over these files with these items, or the refusal of their first breach of a static rule
+abbrev pub checked_output : (steps answers : ℕ) → List ℕ → List FileEntry → List FileItems → Option Breach → Output
+checked_output steps answers query files items (Some breach) = line_only (breach_line files breach) Refused
+checked_output steps answers query files items None = query_output steps answers items (goal_of query)
+
+-- the run over the items of these files, or the refusal of a file's text
+abbrev pub texts_output : (steps answers : ℕ) → List ℕ → List FileEntry → Result (List FileItems) Output → Output
+texts_output steps answers query files (Err refusal) = refusal
+texts_output steps answers query files (Ok items) = checked_output steps answers query files items (first_breach (resolved_program (all_items items)))
 
 -- the run over the files, or the refusal of a file
 abbrev pub files_output : (steps answers : ℕ) → List ℕ → Result (List FileEntry) Output → Output
 files_output steps answers query (Err refusal) = refusal
-files_output steps answers query (Ok files) = texts_output steps answers query (items_read 0 files)
+files_output steps answers query (Ok files) = texts_output steps answers query files (items_read 0 files)
 
 -- the names of a command's files
 abbrev pub file_names : List (List ℕ) → Result Command ℕ → List (List ℕ)
@@ -54,7 +61,8 @@ command_output words told (Err index) = line_only (codes "words: bad word at " +
 command_output words told (Ok (Run steps answers query files)) = files_output steps answers (word_at words query) (files_read told (map (word_at words) files))
 
 -- The output of the words over these files: the words, then the files in word order, then their texts by tokens and
--- grammar, then the query's, then whether all are built, then the search. The first refusal decides.
+-- grammar, then the static rules over all of them, then the query's tokens and grammar, then whether all texts are
+-- built, then the search. The first refusal decides.
 abbrev pub output : List (List ℕ) → List FileEntry → Output
 output words told = command_output words told (command words)
 

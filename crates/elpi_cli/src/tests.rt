@@ -63,7 +63,22 @@ fn runs_write_the_rows(rt: HostRuntime) -> Result<(), Fail> {
         ("p :- p.", "p", "out of steps\n", Status::Budget),
         ("p a.", "p", "fault: arity\n", Status::Fault),
         ("p a.", "p X", "refused: query: not yet\n", Status::Refused),
-        ("p a. p.", "p X", "refused: a: not yet\n", Status::Refused),
+        ("p a. p.", "p X", "refused: a:1:6: S3\n", Status::Refused),
+        ("X a.", "p", "refused: a:1:1: S2\n", Status::Refused),
+        ("p (X a).", "p", "refused: a:1:4: S4\n", Status::Refused),
+        ("fail.", "p", "refused: a:1:1: S5\n", Status::Refused),
+        (
+            "pred p i:t. pred p i:t.",
+            "p",
+            "refused: a:1:18: S1\n",
+            Status::Refused,
+        ),
+        // A static rule stands before the query.
+        ("p.\nfail.", ")", "refused: a:2:1: S5\n", Status::Refused),
+        // What is left of an abstraction by contraction is built.
+        ("(x\\ p x) a.", "p a", "answer 1\nno more\n", Status::Done),
+        ("p (x\\ x).", "p", "refused: a: not yet\n", Status::Refused),
+        ("p _.", "p", "refused: a: not yet\n", Status::Refused),
         ("p true.", "p", "refused: a: not yet\n", Status::Refused),
         ("p X.", "p", "refused: a: not yet\n", Status::Refused),
         (

@@ -44,7 +44,7 @@ fn token_stop(alloc: Global, name: &str, text: &[u8], error: LexError) -> TextSt
 }
 
 // The refusal of a text by a rule at a byte.
-fn refuse(alloc: Global, name: &str, text: &[u8], at: usize, rule: &str) -> TextStop
+pub fn refuse(alloc: Global, name: &str, text: &[u8], at: usize, rule: &str) -> TextStop
     ensures { IsRefusal (refused_line name.now text.now at rule.now) result }
 {
     match refused_text(alloc, name, text, at, rule) {
