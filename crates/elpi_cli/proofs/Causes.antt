@@ -6,8 +6,7 @@ use Rattle.std.specs.declared.result.Result.{Result}
 use Rattle.lam_io.specs.declared.byte_text.FileEntry.{FileEntry}
 use Rattle.lam_io.specs.Reads.{bytes_of}
 use Rattle.lam_io.specs.Writes.{Appended}
-use Rattle.lp_parser.specs.declared.ast.AstGoal.{AstGoal}
-use Rattle.lp_parser.specs.declared.ast.Item.{Item}
+use Rattle.lp_parser.specs.declared.ast.AstTerm.{AstTerm}
 use Rattle.ref_terms.specs.unification.Unification.{unify}
 use Rattle.ref_terms.specs.search.Program.{Program, Query}
 use Rattle.ref_terms.specs.search.State.{Event}
@@ -18,12 +17,15 @@ use Rattle.elpi_cli.specs.declared.status.Status.{Status}
 use Rattle.elpi_cli.specs.declared.status.Status.TheVariants.{Done, NoAnswer, Words, Refused, Fault, Budget, Missing, TooLong, ReadFault, WriteFault, Memory}
 use Rattle.elpi_cli.specs.Words.{command}
 use Rattle.elpi_cli.specs.Output.{Output, line, written, searched}
-use Rattle.elpi_cli.specs.Resolve.{program_of, query_of}
-use Rattle.elpi_cli.specs.Texts.{files_read, items_of, items_read, goal_of}
-use Rattle.elpi_cli.specs.Top.{output, command_output, files_output, texts_output, query_output, word_at, file_names, files_for, known_files, IsReached, IsStatusOf, IsRunOf}
-use Rattle.elpi_cli.specs.Causes.{EndsWith, IsFailure, ComesBy, ComesExactlyBy, IsComplete, IsBadWord, IsMissing, IsTooLong, IsReady, IsRefusedFile, IsRefusedQuery, IsRefused, Searches, Shows, IsFault, IsOutOfSteps, IsNoAnswer, IsDone}
+use Rattle.lp_resolve.specs.StaticRules.{Breach, first_breach}
+use Rattle.elpi_cli.specs.Resolved.{resolved_program, searched_program, searched_query}
+use Rattle.elpi_cli.specs.Static.{breach_line}
+use Rattle.elpi_cli.specs.Texts.{files_read, items_of, FileItems, all_items, items_read, goal_of}
+use Rattle.elpi_cli.specs.Built.{unbuilt_text, not_yet_line}
+use Rattle.elpi_cli.specs.Top.{output, command_output, files_output, texts_output, checked_output, query_output, built_output, word_at, file_names, files_for, known_files, IsReached, IsStatusOf, IsRunOf}
+use Rattle.elpi_cli.specs.Causes.{EndsWith, IsFailure, ComesBy, ComesExactlyBy, IsComplete, IsBadWord, IsMissing, IsTooLong, IsReady, IsRefusedFile, AreChecked, IsRefusedProgram, IsRefusedQuery, IsUnbuiltText, IsRefused, Searches, Shows, IsFault, IsOutOfSteps, IsNoAnswer, IsDone}
 use Rattle.elpi_cli.proofs.CausesSearch.{SearchCause, search-cause, search-status}
-use Rattle.elpi_cli.proofs.CausesTexts.{IsFileRefusal, within-files, missing-file, long-file, refused-file, unbuilt-file, built-items, refused-text, all-built, missing_line, too_long_line}
+use Rattle.elpi_cli.proofs.CausesTexts.{IsFileRefusal, within-files, missing-file, long-file, refused-file, refused-file-text, refused-text, missing_line, too_long_line}
 
 -- the cause of a run's status
 abbrev pub CauseOf : List (List ℕ) → List FileEntry → Status → List ℕ → Type 0
@@ -49,27 +51,41 @@ of-search words told limit shown shows Fault last h = (limit, shown, shows, h)
 of-search words told limit shown shows Budget last h = (limit, shown, shows, h)
 of-search words told limit shown shows status last h = absurd h
 
--- the cause, where all files are built
-by-goal : (words : List (List ℕ)) (told : List FileEntry) (steps answers : ℕ) (query : List ℕ) (files : List FileEntry) (items : List Item) (goal : Result AstGoal (List ℕ)) → IsReady words told steps answers query files → items_read 0 files ≡ Ok items → goal_of query ≡ goal
-    → HasCauseIn words told (query_output steps answers items goal)
-by-goal words told steps answers query files items (Err last) ready read is =
-    (last, (steps, answers, query, files, ready, inr (all-built 0 files items read, is)), ([], refl))
-by-goal words told steps answers query files items (Ok goal) ready read is =
-    let p = program_of items goal in
-    let q = query_of items goal in
+-- the cause, where all texts are accepted and this is the first that isn't built
+by-built : (words : List (List ℕ)) (told : List FileEntry) (steps answers : ℕ) (query : List ℕ) (files : List FileEntry) (items : List FileItems) (goal : AstTerm) (unbuilt : Option (List ℕ)) → IsReady words told steps answers query files → AreChecked files items → goal_of query ≡ Ok goal → unbuilt_text items goal ≡ unbuilt
+    → HasCauseIn words told (built_output steps answers items goal unbuilt)
+by-built words told steps answers query files items goal (Some name) ready checked goal_is is =
+    (not_yet_line name, (steps, answers, query, files, ready, inr (inr (inr (items, goal, checked, goal_is, name, is, refl)))), ([], refl))
+by-built words told steps answers query files items goal None ready checked goal_is is =
+    let p = searched_program (all_items items) goal in
+    let q = searched_query (all_items items) goal in
     let shown = events unify p steps (first_state q) in
-    let searches : Searches words told p q steps answers = record { text = query; files = files; items = items; goal = goal; ready = ready; items_are = read; goal_is = is; program_is = refl; query_is = refl } in
+    let searches : Searches words told p q steps answers = record { text = query; files = files; items = items; goal = goal; ready = ready; checked = checked; goal_is = goal_is; built = is; program_is = refl; query_is = refl } in
     let found = search-cause p.symbols q.variables answers shown in
     (found.0, of-search words told answers shown (p, q, steps, searches, refl) (written p.symbols q.variables answers 0 shown).status found.0 found.1, found.2)
 
+-- the cause, where the texts of all files are accepted and break no static rule
+by-goal : (words : List (List ℕ)) (told : List FileEntry) (steps answers : ℕ) (query : List ℕ) (files : List FileEntry) (items : List FileItems) (goal : Result AstTerm (List ℕ)) → IsReady words told steps answers query files → AreChecked files items → goal_of query ≡ goal
+    → HasCauseIn words told (query_output steps answers items goal)
+by-goal words told steps answers query files items (Err last) ready checked is =
+    (last, (steps, answers, query, files, ready, inr (inr (inl (items, checked, is)))), ([], refl))
+by-goal words told steps answers query files items (Ok goal) ready checked is = by-built words told steps answers query files items goal (unbuilt_text items goal) ready checked is refl
+
+-- the cause, where the texts of all files are accepted
+by-breach : (words : List (List ℕ)) (told : List FileEntry) (steps answers : ℕ) (query : List ℕ) (files : List FileEntry) (items : List FileItems) (breach : Option Breach) → IsReady words told steps answers query files → items_read 0 files ≡ Ok items → first_breach (resolved_program (all_items items)) ≡ breach
+    → HasCauseIn words told (checked_output steps answers query files items breach)
+by-breach words told steps answers query files items (Some breach) ready read is =
+    (breach_line files breach, (steps, answers, query, files, ready, inr (inl (items, read, breach, is, refl))), ([], refl))
+by-breach words told steps answers query files items None ready read is = by-goal words told steps answers query files items (goal_of query) ready (read, is) refl
+
 -- the cause, where all files are read
-by-items : (words : List (List ℕ)) (told : List FileEntry) (steps answers : ℕ) (query : List ℕ) (files : List FileEntry) (r : Result (List Item) Output) → IsReady words told steps answers query files → items_read 0 files ≡ r
-    → HasCauseIn words told (texts_output steps answers query r)
+by-items : (words : List (List ℕ)) (told : List FileEntry) (steps answers : ℕ) (query : List ℕ) (files : List FileEntry) (r : Result (List FileItems) Output) → IsReady words told steps answers query files → items_read 0 files ≡ r
+    → HasCauseIn words told (texts_output steps answers query files r)
 by-items words told steps answers query files (Err refusal) ready is =
     let h = refused-text 0 files refusal is in
-    let unbuilt : IsRefusedFile files h.3 = (h.0, h.1, h.2, h.4, h.5, subst (λ (n : ℕ). items_of h.1.name n h.1.bytes ≡ Err h.3) (zero-add (length h.0)) h.6) in
-    subst (HasCauseIn words told) (sym h.7) (h.3, (steps, answers, query, files, ready, inl unbuilt), ([], refl))
-by-items words told steps answers query files (Ok items) ready is = by-goal words told steps answers query files items (goal_of query) ready is refl
+    let refused : IsRefusedFile files h.3 = (h.0, h.1, h.2, h.4, h.5, subst (λ (n : ℕ). items_of h.1.name n h.1.bytes ≡ Err h.3) (zero-add (length h.0)) h.6) in
+    subst (HasCauseIn words told) (sym h.7) (h.3, (steps, answers, query, files, ready, inl refused), ([], refl))
+by-items words told steps answers query files (Ok items) ready is = by-breach words told steps answers query files items (first_breach (resolved_program (all_items items))) ready is refl
 
 -- why a file is refused, for the command that names it
 by-refusal : (words : List (List ℕ)) (told : List FileEntry) (name : List ℕ) (refusal : Output) → IsReached told (file_names words (command words)) name → IsFileRefusal (bytes_of told name) name refusal → HasCauseIn words told refusal
@@ -113,29 +129,43 @@ refused-reached words told name refusal (Ok (Run steps answers query indices)) r
     ap (files_output steps answers (word_at words query)) read
 
 -- the output of a command whose files are read
-ready-output : (words : List (List ℕ)) (told : List FileEntry) (steps answers : ℕ) (query : List ℕ) (files : List FileEntry) → IsReady words told steps answers query files → output words told ≡ texts_output steps answers query (items_read 0 files)
+ready-output : (words : List (List ℕ)) (told : List FileEntry) (steps answers : ℕ) (query : List ℕ) (files : List FileEntry) → IsReady words told steps answers query files → output words told ≡ texts_output steps answers query files (items_read 0 files)
 ready-output words told steps answers query files ready =
     ap (command_output words told) ready.command_is
     ∙ ap (files_output steps answers (word_at words ready.query_index)) ready.files_are
-    ∙ ap (λ (text : List ℕ). texts_output steps answers text (items_read 0 files)) (sym ready.query_is)
+    ∙ ap (λ (text : List ℕ). texts_output steps answers text files (items_read 0 files)) (sym ready.query_is)
 
--- a text that isn't built is refused
-unbuilt-output : (words : List (List ℕ)) (told : List FileEntry) (steps answers : ℕ) (query : List ℕ) (files : List FileEntry) (last : List ℕ) → IsRefusedFile files last ⊎ IsRefusedQuery files query last → (texts_output steps answers query (items_read 0 files)).status ≡ Refused
-unbuilt-output words told steps answers query files last (inl h) =
+-- the output over files that are accepted
+read-output : (steps answers : ℕ) (query : List ℕ) (files : List FileEntry) (items : List FileItems) → items_read 0 files ≡ Ok items
+    → texts_output steps answers query files (items_read 0 files) ≡ checked_output steps answers query files items (first_breach (resolved_program (all_items items)))
+read-output steps answers query files items read = ap (texts_output steps answers query files) read
+
+-- the output over files that are accepted and break no static rule
+unbroken-output : (steps answers : ℕ) (query : List ℕ) (files : List FileEntry) (items : List FileItems) → AreChecked files items
+    → texts_output steps answers query files (items_read 0 files) ≡ query_output steps answers items (goal_of query)
+unbroken-output steps answers query files items checked = read-output steps answers query files items checked.0 ∙ ap (checked_output steps answers query files items) checked.1
+
+-- a text that has a cause to be refused is refused
+refused-output : (words : List (List ℕ)) (told : List FileEntry) (steps answers : ℕ) (query : List ℕ) (files : List FileEntry) (last : List ℕ)
+    → IsRefusedFile files last ⊎ (IsRefusedProgram files last ⊎ (IsRefusedQuery files query last ⊎ IsUnbuiltText files query last)) → (texts_output steps answers query files (items_read 0 files)).status ≡ Refused
+refused-output words told steps answers query files last (inl h) =
     let none = subst (λ (n : ℕ). items_of h.1.name n h.1.bytes ≡ Err last) (sym (zero-add (length h.0))) h.5 in
-    ap (λ (r : Result (List Item) Output). (texts_output steps answers query r).status) (ap (items_read 0) h.3 ∙ unbuilt-file 0 h.0 h.1 h.2 last h.4 none)
-unbuilt-output words told steps answers query files last (inr h) =
-    let read = built-items 0 files h.0 in
-    ap (λ (r : Result (List Item) Output). (texts_output steps answers query r).status) read.1
-    ∙ ap (λ (goal : Result AstGoal (List ℕ)). (query_output steps answers read.0 goal).status) h.1
+    ap (λ (r : Result (List FileItems) Output). (texts_output steps answers query files r).status) (ap (items_read 0) h.3 ∙ refused-file-text 0 h.0 h.1 h.2 last h.4 none)
+refused-output words told steps answers query files last (inr (inl h)) =
+    ap (λ (o : Output). o.status) (read-output steps answers query files h.0 h.1 ∙ ap (checked_output steps answers query files h.0) h.3)
+refused-output words told steps answers query files last (inr (inr (inl h))) =
+    ap (λ (o : Output). o.status) (unbroken-output steps answers query files h.0 h.1 ∙ ap (query_output steps answers h.0) h.2)
+refused-output words told steps answers query files last (inr (inr (inr h))) =
+    ap (λ (o : Output). o.status) (unbroken-output steps answers query files h.0 h.2 ∙ ap (query_output steps answers h.0) h.3 ∙ ap (built_output steps answers h.0 h.1) h.5)
 
 -- the output of a search that is asked for
 search-output : (words : List (List ℕ)) (told : List FileEntry) (program : Program) (query : Query) (steps answers : ℕ) → Searches words told program query steps answers → output words told ≡ searched program query steps answers
 search-output words told program query steps answers s =
     ready-output words told steps answers s.text s.files s.ready
-    ∙ ap (texts_output steps answers s.text) s.items_are
+    ∙ unbroken-output steps answers s.text s.files s.items s.checked
     ∙ ap (query_output steps answers s.items) s.goal_is
-    ∙ ap (λ (p : Program). searched p (query_of s.items s.goal) steps answers) (sym s.program_is)
+    ∙ ap (built_output steps answers s.items s.goal) s.built
+    ∙ ap (λ (p : Program). searched p (searched_query (all_items s.items) s.goal) steps answers) (sym s.program_is)
     ∙ ap (λ (q : Query). searched program q steps answers) (sym s.query_is)
 
 -- a search with this cause decides
@@ -151,7 +181,7 @@ run-status words told Done last h = shown-status words told h.0 h.1 last Done h.
 run-status words told NoAnswer last h = shown-status words told h.0 h.1 last NoAnswer h.2 h.3
 run-status words told Words last h = ap (λ (c : Result Command ℕ). (command_output words told c).status) h.1
 run-status words told Refused last h =
-    ap (λ (o : Output). o.status) (ready-output words told h.0 h.1 h.2 h.3 h.4) ∙ unbuilt-output words told h.0 h.1 h.2 h.3 last h.5
+    ap (λ (o : Output). o.status) (ready-output words told h.0 h.1 h.2 h.3 h.4) ∙ refused-output words told h.0 h.1 h.2 h.3 last h.5
 run-status words told Fault last h = shown-status words told h.0 h.1 last Fault h.2 h.3
 run-status words told Budget last h = shown-status words told h.0 h.1 last Budget h.2 h.3
 run-status words told Missing last h =

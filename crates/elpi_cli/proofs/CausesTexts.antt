@@ -7,9 +7,9 @@ use Rattle.lam_io.specs.Reads.{bytes_of}
 use Rattle.lp_parser.specs.declared.ast.Item.{Item}
 use Rattle.elpi_cli.specs.declared.status.Status.TheVariants.{Refused, Missing, TooLong}
 use Rattle.elpi_cli.specs.Output.{Output, line, line_only}
-use Rattle.elpi_cli.specs.Texts.{file_limit, before_files, with_file, files_read, items_of, with_items, items_read}
+use Rattle.elpi_cli.specs.Texts.{file_limit, before_files, with_file, files_read, items_of, FileItems, with_items, items_read}
 use Rattle.elpi_cli.specs.Top.{AreWithin, IsReached}
-use Rattle.elpi_cli.specs.Causes.{AreBuilt}
+use Rattle.elpi_cli.specs.Causes.{AreAccepted}
 
 -- the line of a file that isn't there
 abbrev pub missing_line : List ℕ → List ℕ
@@ -86,48 +86,38 @@ pub refused-file : (told : List FileEntry) (names : List (List ℕ)) (refusal : 
 refused-file told [] refusal is = absurd (cc)
 refused-file told (name ∷ names) refusal is = by-bytes told name names refusal (bytes_of told name) refl (refused-file told names) is
 
--- a file that is built leaves the refusal of a later one
-built-file : (found : Result (List Item) (List ℕ)) (later : Result (List Item) Output) (refusal : Output) → IsOk found → later ≡ Err refusal → with_items found later ≡ Err refusal
-built-file (Err last) later refusal ok is = absurd (let no : false ≡ true = ok in cc)
-built-file (Ok items) later refusal ok is = ap (with_items (Ok items)) is
+-- a text that is accepted leaves the refusal of a later one
+accepted-file : (name : List ℕ) (found : Result (List Item) (List ℕ)) (later : Result (List FileItems) Output) (refusal : Output) → IsOk found → later ≡ Err refusal → with_items name found later ≡ Err refusal
+accepted-file name (Err last) later refusal ok is = absurd (let no : false ≡ true = ok in cc)
+accepted-file name (Ok items) later refusal ok is = ap (with_items name (Ok items)) is
 
 -- one more file before the others
 add-file : {A : Type 0} (file : ℕ) (f : A) (fs : List A) → file + 1 + length fs ≡ file + length (f ∷ fs)
 add-file file f fs = omega arith
 
--- files that are built leave the refusal of the next
-pub unbuilt-file : (file : ℕ) (before : List FileEntry) (f : FileEntry) (after : List FileEntry) (last : List ℕ) → AreBuilt file before → items_of f.name (file + length before) f.bytes ≡ Err last → items_read file (before ++ f ∷ after) ≡ Err (line_only last Refused)
-unbuilt-file file [] f after last built is =
+-- texts that are accepted leave the refusal of the next
+pub refused-file-text : (file : ℕ) (before : List FileEntry) (f : FileEntry) (after : List FileEntry) (last : List ℕ) → AreAccepted file before → items_of f.name (file + length before) f.bytes ≡ Err last → items_read file (before ++ f ∷ after) ≡ Err (line_only last Refused)
+refused-file-text file [] f after last accepted is =
     let none : items_of f.name file f.bytes ≡ Err last = subst (λ (n : ℕ). items_of f.name n f.bytes ≡ Err last) (add-zero file) is in
-    ap (λ (r : Result (List Item) (List ℕ)). with_items r (items_read (file + 1) after)) none
-unbuilt-file file (g ∷ before) f after last built is =
-    built-file (items_of g.name file g.bytes) (items_read (file + 1) (before ++ f ∷ after)) (line_only last Refused) built.0
-    (unbuilt-file (file + 1) before f after last built.1 (subst (λ (n : ℕ). items_of f.name n f.bytes ≡ Err last) (sym (add-file file g before)) is))
+    ap (λ (r : Result (List Item) (List ℕ)). with_items f.name r (items_read (file + 1) after)) none
+refused-file-text file (g ∷ before) f after last accepted is =
+    accepted-file g.name (items_of g.name file g.bytes) (items_read (file + 1) (before ++ f ∷ after)) (line_only last Refused) accepted.0
+    (refused-file-text (file + 1) before f after last accepted.1 (subst (λ (n : ℕ). items_of f.name n f.bytes ≡ Err last) (sym (add-file file g before)) is))
 
--- a file that is built, before others that are
-built-all : (found : Result (List Item) (List ℕ)) (later : Result (List Item) Output) → IsOk found → (items : List Item) × (later ≡ Ok items) → (items : List Item) × (with_items found later ≡ Ok items)
-built-all (Err last) later ok h = absurd (let no : false ≡ true = ok in cc)
-built-all (Ok items) later ok h = (items ++ h.0, ap (with_items (Ok items)) h.1)
-
--- where all files are built, their items are read
-pub built-items : (file : ℕ) (files : List FileEntry) → AreBuilt file files → (items : List Item) × (items_read file files ≡ Ok items)
-built-items file [] built = ([], refl)
-built-items file (f ∷ fs) built = built-all (items_of f.name file f.bytes) (items_read (file + 1) fs) built.0 (built-items (file + 1) fs built.1)
-
--- a file is refused with a line, and those before it are built
+-- a file's text is refused with a line, and those before it are accepted
 abbrev pub HasTextRefusal : (file : ℕ) → List FileEntry → Output → Type 0
 HasTextRefusal file files refusal =
     (before : List FileEntry) × (f : FileEntry) × (after : List FileEntry) × (last : List ℕ) × (files ≡ before ++ f ∷ after)
-    × AreBuilt file before × (items_of f.name (file + length before) f.bytes ≡ Err last) × (refusal ≡ line_only last Refused)
+    × AreAccepted file before × (items_of f.name (file + length before) f.bytes ≡ Err last) × (refusal ≡ line_only last Refused)
 
--- a later text is refused behind one that is built
+-- a later text is refused behind one that is accepted
 later-text : (file : ℕ) (f : FileEntry) (fs : List FileEntry) (refusal : Output) → IsOk (items_of f.name file f.bytes) → HasTextRefusal (file + 1) fs refusal → HasTextRefusal file (f ∷ fs) refusal
 later-text file f fs refusal ok h =
     (f ∷ h.0, h.1, h.2, h.3, ap (λ (gs : List FileEntry). f ∷ gs) h.4, (ok, h.5), subst (λ (n : ℕ). items_of h.1.name n h.1.bytes ≡ Err h.3) (add-file file f h.0) h.6, h.7)
 
--- the refusal of a text behind one that is built
-by-later : (file : ℕ) (f : FileEntry) (fs : List FileEntry) (refusal : Output) (items : List Item) (later : Result (List Item) Output) → items_read (file + 1) fs ≡ later → items_of f.name file f.bytes ≡ Ok items
-    → ((r : Output) → items_read (file + 1) fs ≡ Err r → HasTextRefusal (file + 1) fs r) → with_items (Ok items) later ≡ Err refusal → HasTextRefusal file (f ∷ fs) refusal
+-- the refusal of a text behind one that is accepted
+by-later : (file : ℕ) (f : FileEntry) (fs : List FileEntry) (refusal : Output) (items : List Item) (later : Result (List FileItems) Output) → items_read (file + 1) fs ≡ later → items_of f.name file f.bytes ≡ Ok items
+    → ((r : Output) → items_read (file + 1) fs ≡ Err r → HasTextRefusal (file + 1) fs r) → with_items f.name (Ok items) later ≡ Err refusal → HasTextRefusal file (f ∷ fs) refusal
 by-later file f fs refusal items (Ok more) is found go refused = absurd (cc)
 by-later file f fs refusal items (Err other) is found go refused =
     let same : other ≡ refusal = cc in
@@ -135,26 +125,13 @@ by-later file f fs refusal items (Err other) is found go refused =
 
 -- the refusal of a text, or of a later one
 by-items : (file : ℕ) (f : FileEntry) (fs : List FileEntry) (refusal : Output) (found : Result (List Item) (List ℕ)) → items_of f.name file f.bytes ≡ found
-    → ((r : Output) → items_read (file + 1) fs ≡ Err r → HasTextRefusal (file + 1) fs r) → with_items found (items_read (file + 1) fs) ≡ Err refusal → HasTextRefusal file (f ∷ fs) refusal
+    → ((r : Output) → items_read (file + 1) fs ≡ Err r → HasTextRefusal (file + 1) fs r) → with_items f.name found (items_read (file + 1) fs) ≡ Err refusal → HasTextRefusal file (f ∷ fs) refusal
 by-items file f fs refusal (Err last) is go refused =
     let why : line_only last Refused ≡ refusal = cc in
     ([], f, fs, last, refl, tt, subst (λ (n : ℕ). items_of f.name n f.bytes ≡ Err last) (sym (add-zero file)) is, sym why)
 by-items file f fs refusal (Ok items) is go refused = by-later file f fs refusal items (items_read (file + 1) fs) refl is go refused
 
--- the first text that isn't built is refused
+-- the first text that is refused
 pub refused-text : (file : ℕ) (files : List FileEntry) (refusal : Output) → items_read file files ≡ Err refusal → HasTextRefusal file files refusal
 refused-text file [] refusal is = absurd (cc)
 refused-text file (f ∷ fs) refusal is = by-items file f fs refusal (items_of f.name file f.bytes) refl (refused-text (file + 1) fs) is
-
--- where items are read, the first text is built, and the later ones are read
-all-of-both : (found : Result (List Item) (List ℕ)) (later : Result (List Item) Output) (items : List Item) → with_items found later ≡ Ok items → IsOk found × ((items : List Item) × (later ≡ Ok items))
-all-of-both (Err last) later items is = absurd (cc)
-all-of-both (Ok first) (Ok more) items is = (refl, (more, refl))
-all-of-both (Ok first) (Err other) items is = absurd (cc)
-
--- where items are read, all files are built
-pub all-built : (file : ℕ) (files : List FileEntry) (items : List Item) → items_read file files ≡ Ok items → AreBuilt file files
-all-built file [] items is = tt
-all-built file (f ∷ fs) items is =
-    let both = all-of-both (items_of f.name file f.bytes) (items_read (file + 1) fs) items is in
-    (both.0, all-built (file + 1) fs both.1.0 both.1.1)

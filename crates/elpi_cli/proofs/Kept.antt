@@ -1,12 +1,14 @@
 -- Clauses whose bodies end within the atoms read as before where atoms are put last.
-use Rattle.std.proofs.Common.{◌≡◌, ℕ, ◌-◌, ◌≤◌, Bool, true, false, cond, nat_lt, nat_le, ◌&&◌, slice_index_or, List, [], ◌∷◌, ◌++◌, length, map, take, drop, Some, None, refl, ap, sym, subst, ◌∙◌, append_assoc, length-append, arith}
+use Rattle.std.proofs.Common.{◌≡◌, ℕ, ◌-◌, ◌≤◌, Bool, true, false, cond, nat_eq, nat_lt, nat_le, ◌&&◌, slice_index_or, List, [], ◌∷◌, ◌++◌, length, map, take, drop, Some, None, refl, ap, sym, subst, ◌∙◌, append_assoc, length-append, arith}
 use Rattle.std.proofs.lemmas.List.{map-append, drop-append-le, take-append-le, length-drop}
-use Rattle.std.specs.Prelude.{IsTrue, if◌then◌else◌}
-use Rattle.std.specs.List.{list_all, list_any}
-use Rattle.std.specs.Str.{bytes_eq}
-use Rattle.lp_parser.specs.declared.ast.Clause as parsed
+use Rattle.std.specs.Prelude.{IsTrue, flat_map}
+use Rattle.std.specs.List.{list_all, filter_map}
 use Rattle.lp_parser.specs.declared.ast.Item.{Item}
 use Rattle.lp_parser.specs.declared.ast.Item.TheVariants as item
+use Rattle.lp_resolve.specs.declared.program.ClauseTree.{ClauseTree}
+use Rattle.lp_resolve.specs.ProgramReading.{item_line, item_rules}
+use Rattle.lp_resolve.specs.declared.query.Query.{Query}
+use Rattle.lp_resolve.specs.Plain.{plain_clause}
 use Rattle.ref_terms.specs.search.Program.{Clause}
 use Rattle.elpi_cli.specs.declared.horn.Atom.{Atom}
 use Rattle.elpi_cli.specs.declared.horn.Span.{Span}
@@ -14,9 +16,8 @@ use Rattle.elpi_cli.specs.declared.horn.HornClause.{HornClause}
 use Rattle.elpi_cli.specs.declared.horn.Horn.{Horn}
 use Rattle.elpi_cli.specs.HornSearch.{atoms_of}
 use Rattle.elpi_cli.specs.HornProgram.{atom_term, conjunction, clause_term, places_of, is_free, IsProgram}
-use Rattle.elpi_cli.specs.Symbols.{reserved_names, interned, interned_all}
-use Rattle.elpi_cli.specs.Resolve.{clauses_of, is_horn_item, heads_agree, are_built_over}
-use Rattle.elpi_cli.specs.Conversion.{BeginsReserved, Grows, IsClauseOf, AreClausesOf, IsProgramOf}
+use Rattle.elpi_cli.specs.Forms.{is_horn_clause, is_clause}
+use Rattle.elpi_cli.specs.Conversion.{Grows, IsGoalOf, IsClauseOf, AreClausesOf, IsProgramOf, IsQueryOf}
 use Rattle.elpi_cli.proofs.Converted.{all-append}
 
 -- the test that a body ends within so many atoms
@@ -100,10 +101,10 @@ stays old new cs grows within free =
       free = subst (λ (zs : List Atom). IsTrue (list_all (λ (a : Atom). is_free a.constant) zs)) (sym grows.1) (all-append (λ (a : Atom). is_free a.constant) old grows.0 free grows.2);
     }
 
--- the items are these clauses, and then those that are left
-pub record ClausesRead (table : List (List ℕ)) (items : List Item) (atoms : List Atom) (cs : List HornClause) (rest : List Item) : Type 0 where
-  pub form : list_all is_horn_item items ≡ list_all is_horn_item rest
-  pub clauses : clauses_of table items ≡ map (clause_term atoms) cs ++ clauses_of table rest
+-- the resolved clauses are these clauses, and then those that are left
+pub record ClausesRead (all : List ClauseTree) (atoms : List Atom) (cs : List HornClause) (rest : List ClauseTree) : Type 0 where
+  pub form : list_all is_horn_clause all ≡ list_all is_horn_clause rest
+  pub clauses : map plain_clause all ≡ map (clause_term atoms) cs ++ map plain_clause rest
   pub within : IsTrue (list_all (ends_within (length atoms)) cs)
   pub free : IsTrue (list_all (λ (a : Atom). is_free a.constant) atoms)
 
@@ -112,55 +113,54 @@ one-true : (b : Bool) → IsTrue b → IsTrue (b && true)
 one-true true h = refl
 one-true false h = h
 
--- one item more, whose clause was put last
-pub clauses-more : (table : List (List ℕ)) (items : List Item) (old new : List Atom) (cs ds : List HornClause) (k : parsed.Clause) (rest : List Item) (c : HornClause) → ClausesRead table items old cs (item.Clause k ∷ rest)
-    → Grows old new → IsClauseOf table new k.term c → ds ≡ cs ++ c ∷ [] → ClausesRead table items new ds rest
-clauses-more table items old new cs ds k rest c so grows is e =
-    let kept = stays old new cs grows so.within so.free in
-    let last : ClausesRead table items new (cs ++ c ∷ []) rest = record {
+-- one clause more, which was put last
+pub clauses-more : (all : List ClauseTree) (old new : List Atom) (cs ds : List HornClause) (k : ClauseTree) (rest : List ClauseTree) (c : HornClause) → ClausesRead all old cs (k ∷ rest)
+    → IsClauseOf old new k c → ds ≡ cs ++ c ∷ [] → ClausesRead all new ds rest
+clauses-more all old new cs ds k rest c so is e =
+    let kept = stays old new cs is.grows so.within so.free in
+    let last : ClausesRead all new (cs ++ c ∷ []) rest = record {
       form = so.form ∙ rw is.form refl;
-      clauses = so.clauses ∙ rw (sym kept.clauses, sym is.term) (sym (append_assoc (map (clause_term new) cs) (clause_term new c ∷ []) (clauses_of table rest)) ∙ ap (λ (ks : List Clause). ks ++ clauses_of table rest) (sym (map-append (clause_term new) cs (c ∷ []))));
+      clauses = so.clauses ∙ rw (sym kept.clauses, sym is.term) (sym (append_assoc (map (clause_term new) cs) (clause_term new c ∷ []) (map plain_clause rest)) ∙ ap (λ (ks : List Clause). ks ++ map plain_clause rest) (sym (map-append (clause_term new) cs (c ∷ []))));
       within = all-append (ends_within (length new)) cs (c ∷ []) kept.within (one-true (ends_within (length new) c) is.within);
       free = kept.free;
     } in
-    subst (λ (xs : List HornClause). ClausesRead table items new xs rest) (sym e) last
+    subst (λ (xs : List HornClause). ClausesRead all new xs rest) (sym e) last
 
 -- a program stays one where atoms are put last
-pub program-stays : (horn : Horn) (atoms : List Atom) → IsProgram horn → Grows horn.atoms atoms → IsProgram (record { atoms = atoms; clauses = horn.clauses; places = horn.places })
+program-stays : (horn : Horn) (atoms : List Atom) → IsProgram horn → Grows horn.atoms atoms → IsProgram (record { atoms = atoms; clauses = horn.clauses; places = horn.places })
 program-stays horn atoms p grows =
     let kept = stays horn.atoms atoms horn.clauses grows p.within p.free in
     record { within = kept.within; indexed = p.indexed; free = kept.free }
 
--- clauses whose places are kept and whose heads agree
-pub program-built : (table : List (List ℕ)) (items : List Item) (horn : Horn) (places : List (List ℕ)) → AreClausesOf table items horn → ((c : ℕ) → slice_index_or places c [] ≡ places_of c 0 horn.clauses)
-    → heads_agree (map (clause_term horn.atoms) horn.clauses) ≡ true → IsProgramOf table items (record { atoms = horn.atoms; clauses = horn.clauses; places = places })
-program-built table items horn places so indexed agree = record {
-  built = and-true (list_all is_horn_item items) (heads_agree (clauses_of table items)) so.form (ap heads_agree (sym so.clauses) ∙ agree);
+-- the query in a program whose atoms it was put behind
+pub query-read : (query : Query) (horn : Horn) (atoms : List Atom) (span : Span) → nat_eq (length query.vars) 0 ≡ true → IsProgram horn → IsGoalOf horn.atoms atoms query.goal span
+    → IsQueryOf query horn (record { atoms = atoms; clauses = horn.clauses; places = horn.places }) span
+query-read query horn atoms span none p is = record {
+  form = rw (none, is.form) refl;
+  program = program-stays horn atoms p is.grows;
+  clauses = (stays horn.atoms atoms horn.clauses is.grows p.within p.free).clauses;
+  goal = is.term;
+}
+
+-- clauses whose places are kept
+pub program-built : (cs : List ClauseTree) (horn : Horn) (places : List (List ℕ)) → AreClausesOf cs horn → ((c : ℕ) → slice_index_or places c [] ≡ places_of c 0 horn.clauses)
+    → IsProgramOf cs (record { atoms = horn.atoms; clauses = horn.clauses; places = places })
+program-built cs horn places so indexed = record {
+  form = so.form;
   program = record { within = so.within; indexed = indexed; free = so.free };
   clauses = so.clauses;
-} where
-  and-true : (a b : Bool) → a ≡ true → b ≡ true → (a && b) ≡ true
-  and-true a b h g = rw (h, g) refl
+}
 
--- heads that don't agree
-pub program-unbuilt : (table : List (List ℕ)) (items : List Item) (horn : Horn) → AreClausesOf table items horn → heads_agree (map (clause_term horn.atoms) horn.clauses) ≡ false → are_built_over table items ≡ false
-program-unbuilt table items horn so none = not-right (list_all is_horn_item items) (heads_agree (clauses_of table items)) (ap heads_agree (sym so.clauses) ∙ none) where
-  not-right : (a b : Bool) → b ≡ false → (a && b) ≡ false
-  not-right true b e = e
-  not-right false b e = refl
+-- clauses alone declare no predicate
+pub no-lines : (table : List (List ℕ)) (items : List Item) → list_all is_clause items ≡ true → filter_map (item_line table) items ≡ []
+no-lines table [] e = refl
+no-lines table (item.Clause c ∷ items) e = no-lines table items e
+no-lines table (item.Decl d ∷ items) e = absurd (let no = e in cc)
+no-lines table (item.Block b ∷ items) e = absurd (let no = e in cc)
 
--- The reserved names stay where texts are interned.
-interned-begins : (table : List (List ℕ)) (text : List ℕ) → BeginsReserved table → BeginsReserved (interned table text)
-interned-begins table text begins = at (list_any (bytes_eq text) table) where
-  at : (b : Bool) → BeginsReserved (if b then table else table ++ text ∷ [])
-  at true = begins
-  at false = (begins.0 ++ text ∷ [], ap (λ (t : List (List ℕ)). t ++ text ∷ []) begins.1 ∙ append_assoc reserved_names begins.0 (text ∷ []))
-
--- the same for several texts
-pub begins-reserved : (table : List (List ℕ)) (texts : List (List ℕ)) → BeginsReserved table → BeginsReserved (interned_all table texts)
-begins-reserved table [] begins = begins
-begins-reserved table (text ∷ texts) begins = begins-reserved (interned table text) texts (interned-begins table text begins)
-
--- a table that got more texts
-pub still-reserved : (table new : List (List ℕ)) (texts : List (List ℕ)) → new ≡ interned_all table texts → BeginsReserved table → BeginsReserved new
-still-reserved table new texts e begins = subst BeginsReserved (sym e) (begins-reserved table texts begins)
+-- and have no rule
+pub no-rules : (table : List (List ℕ)) (items : List Item) → list_all is_clause items ≡ true → flat_map (item_rules table) items ≡ []
+no-rules table [] e = refl
+no-rules table (item.Clause c ∷ items) e = no-rules table items e
+no-rules table (item.Decl d ∷ items) e = absurd (let no = e in cc)
+no-rules table (item.Block b ∷ items) e = absurd (let no = e in cc)

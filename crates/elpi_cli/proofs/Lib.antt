@@ -10,12 +10,12 @@ pub mod HornEvents
 pub mod Progress
 pub mod Lines
 pub mod Begins
+pub mod Checking
 pub mod Whole
-pub mod SymbolPlaces
-pub mod Parsed
+pub mod PlainTerms
 pub mod Converted
 pub mod Kept
-pub mod Arities
+pub mod Indexed
 pub mod CausesSearch
 pub mod CausesTexts
 pub mod Causes

@@ -1,13 +1,12 @@
 -- What each status of a run comes of, and the last line that says so.
-use Rattle.std.specs.Prelude.{◌≡◌, ℕ, suc, ◌+◌, ◌<◌, List, [], ◌∷◌, ◌++◌, ◌⊎◌, ⊤, map, length, None, Ok, Err, codes, IsSomeAnd, IsOk}
+use Rattle.std.specs.Prelude.{◌≡◌, ℕ, suc, ◌+◌, ◌<◌, List, [], ◌∷◌, ◌++◌, ◌⊎◌, ⊤, map, length, None, Some, Ok, Err, codes, IsSomeAnd, IsOk}
 use Rattle.std.specs.Fmt.{decimal}
 use Rattle.std.specs.List.{concat}
 use Rattle.std.specs.declared.option.Option.{Option}
 use Rattle.lam_io.specs.declared.byte_text.FileEntry.{FileEntry}
 use Rattle.lam_io.specs.Reads.{bytes_of}
 use Rattle.lam_io.specs.Writes.{Appended}
-use Rattle.lp_parser.specs.declared.ast.AstGoal.{AstGoal}
-use Rattle.lp_parser.specs.declared.ast.Item.{Item}
+use Rattle.lp_parser.specs.declared.ast.AstTerm.{AstTerm}
 use Rattle.ref_terms.specs.declared.fault.Fault.{Fault}
 use Rattle.ref_terms.specs.unification.Unification.{unify}
 use Rattle.ref_terms.specs.search.Fault.{fault_name}
@@ -20,8 +19,11 @@ use Rattle.elpi_cli.specs.declared.status.Status.{Status}
 use Rattle.elpi_cli.specs.declared.status.Status.TheVariants.{ReadFault, WriteFault, Memory}
 use Rattle.elpi_cli.specs.Words.{command}
 use Rattle.elpi_cli.specs.Output.{Output, line}
-use Rattle.elpi_cli.specs.Resolve.{program_of, query_of}
-use Rattle.elpi_cli.specs.Texts.{file_limit, files_read, items_of, items_read, goal_of}
+use Rattle.lp_resolve.specs.StaticRules.{Breach, first_breach}
+use Rattle.elpi_cli.specs.Resolved.{resolved_program, searched_program, searched_query}
+use Rattle.elpi_cli.specs.Static.{breach_line}
+use Rattle.elpi_cli.specs.Texts.{file_limit, files_read, items_of, FileItems, all_items, items_read, goal_of}
+use Rattle.elpi_cli.specs.Built.{unbuilt_text, not_yet_line}
 use Rattle.elpi_cli.specs.Top.{word_at, file_names, IsReached}
 
 -- the last piece of the output is this line
@@ -74,38 +76,55 @@ pub record IsReady (words : List (List ℕ)) (told : List FileEntry) (steps answ
   pub query_is : query ≡ word_at words query_index
   pub files_are : files_read told (map (word_at words) file_indices) ≡ Ok files
 
--- the texts of these files are built, where the first has this number
-abbrev pub AreBuilt : (file : ℕ) → List FileEntry → Type 0
-AreBuilt file [] = ⊤
-AreBuilt file (f ∷ fs) = IsOk (items_of f.name file f.bytes) × AreBuilt (file + 1) fs
+-- tokens and grammar accept the texts of these files, where the first has this number
+abbrev pub AreAccepted : (file : ℕ) → List FileEntry → Type 0
+AreAccepted file [] = ⊤
+AreAccepted file (f ∷ fs) = IsOk (items_of f.name file f.bytes) × AreAccepted (file + 1) fs
 
--- a file's text is refused with this line, and those before it are built
+-- tokens or grammar refuse a file's text with this line, and accept those before it
 abbrev pub IsRefusedFile : List FileEntry → (last : List ℕ) → Type 0
 IsRefusedFile files last =
     (before : List FileEntry) × (f : FileEntry) × (after : List FileEntry) × (files ≡ before ++ f ∷ after)
-    × AreBuilt 0 before × (items_of f.name (length before) f.bytes ≡ Err last)
+    × AreAccepted 0 before × (items_of f.name (length before) f.bytes ≡ Err last)
 
--- the query's text is refused with this line, and all files are built
+-- tokens and grammar accept all files with these items, and these break no static rule
+abbrev pub AreChecked : List FileEntry → List FileItems → Type 0
+AreChecked files items = (items_read 0 files ≡ Ok items) × (first_breach (resolved_program (all_items items)) ≡ None)
+
+-- tokens and grammar accept all files, and the first static rule that their program breaks has this line
+abbrev pub IsRefusedProgram : List FileEntry → (last : List ℕ) → Type 0
+IsRefusedProgram files last =
+    (items : List FileItems) × (items_read 0 files ≡ Ok items)
+    × (breach : Breach) × (first_breach (resolved_program (all_items items)) ≡ Some breach) × (last ≡ breach_line files breach)
+
+-- tokens or grammar refuse the query's text with this line, and all files are accepted and break no static rule
 abbrev pub IsRefusedQuery : List FileEntry → (query last : List ℕ) → Type 0
-IsRefusedQuery files query last = AreBuilt 0 files × (goal_of query ≡ Err last)
+IsRefusedQuery files query last = (items : List FileItems) × AreChecked files items × (goal_of query ≡ Err last)
 
--- all files are read, and the first text that is refused has this line
+-- all texts are accepted and break no static rule, and the first that isn't built has this line
+abbrev pub IsUnbuiltText : List FileEntry → (query last : List ℕ) → Type 0
+IsUnbuiltText files query last =
+    (items : List FileItems) × (goal : AstTerm) × AreChecked files items × (goal_of query ≡ Ok goal)
+    × (name : List ℕ) × (unbuilt_text items goal ≡ Some name) × (last ≡ not_yet_line name)
+
+-- all files are read, and the first refusal of a text has this line
 abbrev pub IsRefused : List (List ℕ) → List FileEntry → (last : List ℕ) → Type 0
 IsRefused words told last =
     (steps : ℕ) × (answers : ℕ) × (query : List ℕ) × (files : List FileEntry) × IsReady words told steps answers query files
-    × (IsRefusedFile files last ⊎ IsRefusedQuery files query last)
+    × (IsRefusedFile files last ⊎ (IsRefusedProgram files last ⊎ (IsRefusedQuery files query last ⊎ IsUnbuiltText files query last)))
 
 -- the words and the files ask for the search of this query over this program, with at most so many steps and answers
 pub record Searches (words : List (List ℕ)) (told : List FileEntry) (program : Program) (query : Query) (steps answers : ℕ) : Type 0 where
   pub text : List ℕ
   pub files : List FileEntry
-  pub items : List Item
-  pub goal : AstGoal
+  pub items : List FileItems
+  pub goal : AstTerm
   pub ready : IsReady words told steps answers text files
-  pub items_are : items_read 0 files ≡ Ok items
+  pub checked : AreChecked files items
   pub goal_is : goal_of text ≡ Ok goal
-  pub program_is : program ≡ program_of items goal
-  pub query_is : query ≡ query_of items goal
+  pub built : unbuilt_text items goal ≡ None
+  pub program_is : program ≡ searched_program (all_items items) goal
+  pub query_is : query ≡ searched_query (all_items items) goal
 
 -- the events of that search, and its answer limit
 abbrev pub Shows : List (List ℕ) → List FileEntry → (limit : ℕ) → List Event → Type 0

@@ -1,78 +1,88 @@
--- What the conversion of parsed terms answers, with a table that begins with the reserved names.
-use Rattle.std.specs.Prelude.{◌≡◌, ℕ, ◌≤◌, ◌<◌, Bool, true, nat_le, List, ◌++◌, length, map, IsTrue}
+-- What the reading of resolved trees as Horn clauses answers.
+use Rattle.std.specs.Prelude.{◌≡◌, ℕ, ◌≤◌, ◌<◌, true, nat_le, List, [], ◌∷◌, ◌++◌, length, map, IsTrue, Some}
 use Rattle.std.specs.List.{list_all}
-use Rattle.lp_parser.specs.declared.ast.AstTerm.{AstTerm}
-use Rattle.lp_parser.specs.declared.ast.Item.{Item}
 use Rattle.ref_terms.specs.terms.Term.{Term, At, Con}
+use Rattle.ref_terms.specs.declared.tree.Tree.{Tree}
+use Rattle.lp_resolve.specs.declared.program.ClauseTree.{ClauseTree}
+use Rattle.lp_resolve.specs.declared.query.Query.{Query}
+use Rattle.lp_resolve.specs.Heads.{constant_of}
+use Rattle.lp_resolve.specs.Plain.{plain_term, plain_clause}
 use Rattle.elpi_cli.specs.declared.horn.Atom.{Atom}
 use Rattle.elpi_cli.specs.declared.horn.Span.{Span}
 use Rattle.elpi_cli.specs.declared.horn.HornClause.{HornClause}
 use Rattle.elpi_cli.specs.declared.horn.Horn.{Horn}
 use Rattle.elpi_cli.specs.HornProgram.{atom_term, span_term, clause_term, is_free, IsProgram}
-use Rattle.elpi_cli.specs.Symbols.{reserved_names}
-use Rattle.elpi_cli.specs.Resolve.{term_of, term_clause, clauses_of, form_of, is_word, is_atom, is_conjunction, is_horn_clause, is_horn_item, are_built_over}
+use Rattle.elpi_cli.specs.Forms.{is_word, is_atom, is_horn_goal, is_horn_clause, is_horn_query}
 
--- the table begins with the reserved names
-abbrev pub BeginsReserved : (table : List (List ℕ)) → Type 0
-BeginsReserved table = (more : List (List ℕ)) × (table ≡ reserved_names ++ more)
-
--- the term is the word of this number
-pub record IsWordOf (table : List (List ℕ)) (t : AstTerm) (number : ℕ) : Type 0 where
-  pub form : is_word (form_of t) ≡ true
-  pub term : term_of table t ≡ At (Con number)
+-- the tree is headed by this constant, which isn't reserved
+pub record IsHeadedBy (t : Tree) (number : ℕ) : Type 0 where
+  pub constant : constant_of t ≡ Some number
   pub free : IsTrue (is_free number)
 
--- each is a word
-abbrev pub are_words : List AstTerm → Bool
-are_words ts = list_all is_word (map form_of ts)
+-- the tree is the word of this number
+pub record IsWordOf (t : Tree) (number : ℕ) : Type 0 where
+  pub form : is_word t ≡ true
+  pub term : plain_term t ≡ At (Con number)
+  pub free : IsTrue (is_free number)
 
 -- constants as terms
 abbrev pub constants : List ℕ → List Term
 constants numbers = map (λ c. At (Con c)) numbers
 
--- the terms are the words of these numbers
-pub record AreWordsOf (table : List (List ℕ)) (ts : List AstTerm) (numbers : List ℕ) : Type 0 where
-  pub form : are_words ts ≡ true
-  pub terms : map (term_of table) ts ≡ constants numbers
+-- the trees are the words of these numbers
+pub record AreWordsOf (ts : List Tree) (numbers : List ℕ) : Type 0 where
+  pub form : list_all is_word ts ≡ true
+  pub terms : map plain_term ts ≡ constants numbers
 
--- the term is this atom
-pub record IsAtomOf (table : List (List ℕ)) (t : AstTerm) (atom : Atom) : Type 0 where
-  pub form : is_atom (form_of t) ≡ true
-  pub term : term_of table t ≡ atom_term atom
+-- the tree is this atom
+pub record IsAtomOf (t : Tree) (atom : Atom) : Type 0 where
+  pub form : is_atom t ≡ true
+  pub term : plain_term t ≡ atom_term atom
   pub free : IsTrue (is_free atom.constant)
 
 -- atoms that aren't reserved were put last
 abbrev pub Grows : List Atom → List Atom → Type 0
 Grows old new = (more : List Atom) × (new ≡ old ++ more) × IsTrue (list_all (λ atom. is_free atom.constant) more)
 
--- the term is the conjunction of the atoms of this span, of which there is one at least
-pub record IsSpanOf (table : List (List ℕ)) (atoms : List Atom) (t : AstTerm) (span : Span) : Type 0 where
-  pub form : is_conjunction (form_of t) ≡ true
-  pub term : span_term atoms span ≡ term_of table t
+-- the tree is an atom, which was put last, and the span goes from a start to the end of it
+pub record IsLastOf (old new : List Atom) (t : Tree) (start : ℕ) (span : Span) : Type 0 where
+  pub atom : Atom
+  pub is : IsAtomOf t atom
+  pub grown : new ≡ old ++ atom ∷ []
+  pub start_is : span.start ≡ start
+  pub end_is : span.end ≡ length new
+
+-- the tree is the goal of this span, which has an atom at least; its atoms were put last
+pub record IsGoalOf (old new : List Atom) (t : Tree) (span : Span) : Type 0 where
+  pub form : is_horn_goal t ≡ true
+  pub grows : Grows old new
+  pub term : span_term new span ≡ plain_term t
   pub some : span.start < span.end
-  pub within : span.end ≤ length atoms
+  pub within : span.end ≤ length new
 
--- the term is the head of this clause, which has no body
-pub record IsFactOf (table : List (List ℕ)) (t : AstTerm) (clause : HornClause) : Type 0 where
-  pub head : IsAtomOf table t clause.head
-  pub start : clause.body.start ≡ 0
-  pub end : clause.body.end ≡ 0
+-- the resolved clause is this one; the atoms of its body were put last
+pub record IsClauseOf (old new : List Atom) (c : ClauseTree) (clause : HornClause) : Type 0 where
+  pub form : is_horn_clause c ≡ true
+  pub grows : Grows old new
+  pub term : clause_term new clause ≡ plain_clause c
+  pub within : IsTrue (nat_le clause.body.end (length new))
 
--- the term is this clause
-pub record IsClauseOf (table : List (List ℕ)) (atoms : List Atom) (t : AstTerm) (clause : HornClause) : Type 0 where
-  pub form : is_horn_clause t ≡ true
-  pub term : clause_term atoms clause ≡ term_clause table t
-  pub within : IsTrue (nat_le clause.body.end (length atoms))
-
--- the items are these clauses, whose atoms aren't reserved
-pub record AreClausesOf (table : List (List ℕ)) (items : List Item) (horn : Horn) : Type 0 where
-  pub form : list_all is_horn_item items ≡ true
-  pub clauses : map (clause_term horn.atoms) horn.clauses ≡ clauses_of table items
+-- the resolved clauses are these, whose atoms aren't reserved
+pub record AreClausesOf (cs : List ClauseTree) (horn : Horn) : Type 0 where
+  pub form : list_all is_horn_clause cs ≡ true
+  pub clauses : map (clause_term horn.atoms) horn.clauses ≡ map plain_clause cs
   pub within : IsTrue (list_all (λ clause. nat_le clause.body.end (length horn.atoms)) horn.clauses)
   pub free : IsTrue (list_all (λ atom. is_free atom.constant) horn.atoms)
 
--- the items are built, and are this program
-pub record IsProgramOf (table : List (List ℕ)) (items : List Item) (horn : Horn) : Type 0 where
-  pub built : are_built_over table items ≡ true
+-- the resolved clauses are this program
+pub record IsProgramOf (cs : List ClauseTree) (horn : Horn) : Type 0 where
+  pub form : list_all is_horn_clause cs ≡ true
   pub program : IsProgram horn
-  pub clauses : map (clause_term horn.atoms) horn.clauses ≡ clauses_of table items
+  pub clauses : map (clause_term horn.atoms) horn.clauses ≡ map plain_clause cs
+
+-- the query is this span in a program that had other atoms before and reads as it did
+pub record IsQueryOf (query : Query) (old horn : Horn) (span : Span) : Type 0 where
+  pub form : is_horn_query query ≡ true
+  pub program : IsProgram horn
+  pub clauses : map (clause_term horn.atoms) horn.clauses ≡ map (clause_term old.atoms) old.clauses
+  pub goal : span_term horn.atoms span ≡ plain_term query.goal

@@ -5,10 +5,12 @@ pub mod Output
 pub mod HornOutput
 pub mod Words
 pub mod Written
-pub mod Symbols
-pub mod Resolve
+pub mod Resolved
+pub mod Forms
 pub mod Positions
 pub mod Texts
+pub mod Built
+pub mod Static
 pub mod Top
 pub mod Causes
 pub mod Begins

@@ -1,5 +1,5 @@
 -- What a whole run writes: the reference for the top call.
-use Rattle.std.specs.Prelude.{◌≡◌, ℕ, ◌≤◌, List, [], ◌∷◌, ◌++◌, ◌⊎◌, map, length, Some, Ok, Err, ⊤, codes, slice_index_or, IsSome, IsSomeAnd}
+use Rattle.std.specs.Prelude.{◌≡◌, ℕ, ◌≤◌, List, [], ◌∷◌, ◌++◌, ◌⊎◌, map, length, None, Some, Ok, Err, ⊤, codes, slice_index_or, IsSome, IsSomeAnd}
 use Rattle.std.specs.Fmt.{decimal}
 use Rattle.std.specs.List.{concat}
 use Rattle.std.specs.declared.option.Option.{Option}
@@ -7,36 +7,48 @@ use Rattle.std.specs.declared.result.Result.{Result}
 use Rattle.lam_io.specs.declared.byte_text.FileEntry.{FileEntry}
 use Rattle.lam_io.specs.Reads.{bytes_of}
 use Rattle.lam_io.specs.Writes.{IsFront}
-use Rattle.lp_parser.specs.declared.ast.AstGoal.{AstGoal}
-use Rattle.lp_parser.specs.declared.ast.Item.{Item}
+use Rattle.lp_parser.specs.declared.ast.AstTerm.{AstTerm}
 use Rattle.elpi_cli.specs.declared.words.Command.{Command}
 use Rattle.elpi_cli.specs.declared.words.Command.TheVariants.{Run}
 use Rattle.elpi_cli.specs.declared.status.Status.{Status}
 use Rattle.elpi_cli.specs.declared.status.Status.TheVariants.{Words, Refused, ReadFault, WriteFault, Memory}
 use Rattle.elpi_cli.specs.Words.{command}
 use Rattle.elpi_cli.specs.Output.{Output, line, line_only, searched}
-use Rattle.elpi_cli.specs.Resolve.{program_of, query_of}
-use Rattle.elpi_cli.specs.Texts.{file_limit, files_read, goal_of, items_read}
+use Rattle.lp_resolve.specs.StaticRules.{Breach, first_breach}
+use Rattle.elpi_cli.specs.Resolved.{resolved_program, searched_program, searched_query}
+use Rattle.elpi_cli.specs.Static.{breach_line}
+use Rattle.elpi_cli.specs.Texts.{file_limit, files_read, goal_of, FileItems, all_items, items_read}
+use Rattle.elpi_cli.specs.Built.{unbuilt_text, not_yet_line}
 use Rattle.elpi_cli.specs.Written.{IsWholePieces}
 
 -- the word at an index
 abbrev pub word_at : List (List ℕ) → ℕ → List ℕ
 word_at words index = slice_index_or words index []
 
--- the query over the items of the files, or its refusal
-abbrev pub query_output : (steps answers : ℕ) → List Item → Result AstGoal (List ℕ) → Output
-query_output steps answers items (Err last) = line_only last Refused
-query_output steps answers items (Ok goal) = searched (program_of items goal) (query_of items goal) steps answers
+-- the search of a goal over the items of the files, or the refusal of the text of this name, whose form isn't built
+abbrev pub built_output : (steps answers : ℕ) → List FileItems → AstTerm → Option (List ℕ) → Output
+built_output steps answers files goal (Some name) = line_only (not_yet_line name) Refused
+built_output steps answers files goal None = searched (searched_program (all_items files) goal) (searched_query (all_items files) goal) steps answers
 
--- the run over the items of the files, or the refusal of a file's text
-abbrev pub texts_output : (steps answers : ℕ) → List ℕ → Result (List Item) Output → Output
-texts_output steps answers query (Err refusal) = refusal
-texts_output steps answers query (Ok items) = query_output steps answers items (goal_of query)
+-- the query over the items of the files, or its refusal
+abbrev pub query_output : (steps answers : ℕ) → List FileItems → Result AstTerm (List ℕ) → Output
+query_output steps answers files (Err last) = line_only last Refused
+query_output steps answers files (Ok goal) = built_output steps answers files goal (unbuilt_text files goal)
+
+-- the run over these files with these items, or the refusal of their first breach of a static rule
+abbrev pub checked_output : (steps answers : ℕ) → List ℕ → List FileEntry → List FileItems → Option Breach → Output
+checked_output steps answers query files items (Some breach) = line_only (breach_line files breach) Refused
+checked_output steps answers query files items None = query_output steps answers items (goal_of query)
+
+-- the run over the items of these files, or the refusal of a file's text
+abbrev pub texts_output : (steps answers : ℕ) → List ℕ → List FileEntry → Result (List FileItems) Output → Output
+texts_output steps answers query files (Err refusal) = refusal
+texts_output steps answers query files (Ok items) = checked_output steps answers query files items (first_breach (resolved_program (all_items items)))
 
 -- the run over the files, or the refusal of a file
 abbrev pub files_output : (steps answers : ℕ) → List ℕ → Result (List FileEntry) Output → Output
 files_output steps answers query (Err refusal) = refusal
-files_output steps answers query (Ok files) = texts_output steps answers query (items_read 0 files)
+files_output steps answers query (Ok files) = texts_output steps answers query files (items_read 0 files)
 
 -- the names of a command's files
 abbrev pub file_names : List (List ℕ) → Result Command ℕ → List (List ℕ)
@@ -48,8 +60,9 @@ abbrev pub command_output : List (List ℕ) → List FileEntry → Result Comman
 command_output words told (Err index) = line_only (codes "words: bad word at " ++ line (decimal index)) Words
 command_output words told (Ok (Run steps answers query files)) = files_output steps answers (word_at words query) (files_read told (map (word_at words) files))
 
--- The output of the words over these files: the words, then the files in word order, then their texts, then the query,
--- then the search. The first refusal decides.
+-- The output of the words over these files: the words, then the files in word order, then their texts by tokens and
+-- grammar, then the static rules over all of them, then the query's tokens and grammar, then whether all texts are
+-- built, then the search. The first refusal decides.
 abbrev pub output : List (List ℕ) → List FileEntry → Output
 output words told = command_output words told (command words)
 

@@ -4,18 +4,20 @@
 //! standard output.
 #![tactic(auto)]
 
+mod built;
+mod convert;
 mod horn;
 mod machine;
 mod positions;
-mod resolve;
 mod search;
 mod stack;
+mod static_rules;
 mod status;
-mod symbols;
 mod texts;
 mod top;
 mod words;
 
+pub use built::Engine;
 pub use horn::{Atom, Horn, HornClause, Span};
 use lam_io::{HostFiles, HostSink};
 pub use machine::{Alternative, Event, Machine, Phase};

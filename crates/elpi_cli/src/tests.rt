@@ -63,9 +63,87 @@ fn runs_write_the_rows(rt: HostRuntime) -> Result<(), Fail> {
         ("p :- p.", "p", "out of steps\n", Status::Budget),
         ("p a.", "p", "fault: arity\n", Status::Fault),
         ("p a.", "p X", "refused: query: not yet\n", Status::Refused),
-        ("p a. p.", "p X", "refused: a: not yet\n", Status::Refused),
-        ("p :- q", "p", "refused: a: not yet\n", Status::Refused),
+        ("p a. p.", "p X", "refused: a:1:6: S3\n", Status::Refused),
+        ("X a.", "p", "refused: a:1:1: S2\n", Status::Refused),
+        ("p (X a).", "p", "refused: a:1:4: S4\n", Status::Refused),
+        ("fail.", "p", "refused: a:1:1: S5\n", Status::Refused),
+        (
+            "pred p i:t. pred p i:t.",
+            "p",
+            "refused: a:1:18: S1\n",
+            Status::Refused,
+        ),
+        // A static rule stands before the query.
+        ("p.\nfail.", ")", "refused: a:2:1: S5\n", Status::Refused),
+        // What is left of an abstraction by contraction is built.
+        ("(x\\ p x) a.", "p a", "answer 1\nno more\n", Status::Done),
+        ("p (x\\ x).", "p", "refused: a: not yet\n", Status::Refused),
+        ("p _.", "p", "refused: a: not yet\n", Status::Refused),
         ("p true.", "p", "refused: a: not yet\n", Status::Refused),
+        ("p X.", "p", "refused: a: not yet\n", Status::Refused),
+        (
+            "kind t type.",
+            "p X",
+            "refused: a: not yet\n",
+            Status::Refused,
+        ),
+        (
+            "constraint p { }",
+            "p",
+            "refused: a: not yet\n",
+            Status::Refused,
+        ),
+        ("p.", "p ; p", "refused: query: not yet\n", Status::Refused),
+        ("p.", "p :- p", "refused: query: not yet\n", Status::Refused),
+        // Brackets that leave the tree are built.
+        (
+            "(p a) :- (q), (r, q). (q) . r.",
+            "(p (a)).",
+            "answer 1\nno more\n",
+            Status::Done,
+        ),
+        // The grammar of the query stands before a form that isn't built.
+        (
+            "p true.",
+            "p )",
+            "refused: query:1:3: query\n",
+            Status::Refused,
+        ),
+        (
+            "p true. )",
+            "p )",
+            "refused: a:1:9: item\n",
+            Status::Refused,
+        ),
+        ("p a ) .", "p", "refused: a:1:5: clause\n", Status::Refused),
+        ("p :-", "p", "refused: a:1:5: clause\n", Status::Refused),
+        ("p :- \n ", "p", "refused: a:2:2: clause\n", Status::Refused),
+        (
+            "kind , type.",
+            "p",
+            "refused: a:1:6: kind\n",
+            Status::Refused,
+        ),
+        ("type p.", "p", "refused: a:1:7: type\n", Status::Refused),
+        (
+            "pred p x:t.",
+            "p",
+            "refused: a:1:8: pred\n",
+            Status::Refused,
+        ),
+        (
+            "constraint p { q }",
+            "p",
+            "refused: a:1:16: constraint\n",
+            Status::Refused,
+        ),
+        (
+            "constraint p { rule . }",
+            "p",
+            "refused: a:1:21: rule\n",
+            Status::Refused,
+        ),
+        ("", "", "refused: query:1:1: query\n", Status::Refused),
         ("p. /*", "p", "refused: a:1:4: comment\n", Status::Refused),
         ("p a.b.", "p", "refused: a:1:4: char\n", Status::Refused),
         ("p \"abc", "p", "refused: a:1:3: string\n", Status::Refused),
@@ -167,6 +245,37 @@ fn files_end_at_the_limit(rt: HostRuntime) -> Result<(), Fail> {
         let (bytes, answered) = run_with(rt.alloc(), "run|--query|p|a", Some(text), 0, (0, 0))?;
         assert_eq!(rt; bytes.as_slice(), written.as_bytes(), "{size}");
         assert_eq!(rt; answered, status, "{size}");
+    }
+    Ok(())
+}
+
+// As many copies of a text, and then another text.
+fn repeated(alloc: Global, part: &str, count: usize, end: &str) -> Result<String, Fail> {
+    let mut text = String::new(alloc);
+    for _ in 0..count {
+        text.push_str(part)?;
+    }
+    text.push_str(end)?;
+    Ok(text)
+}
+
+#[test]
+fn nesting_and_commas_end_at_their_limits(rt: HostRuntime) -> Result<(), Fail> {
+    let alloc = rt.alloc();
+    // The repeated part of the query, how often it stands there, what follows it, and what is written.
+    for (part, count, end, written) in [
+        ("(", 2001, "", "refused: query:1:2001: deep\n"),
+        ("(", 1999, "", "refused: query:1:2000: query\n"),
+        ("p,", 1000, "p", "failure\n"),
+        ("p,", 1001, "p", "refused: query: not yet\n"),
+        ("p,", 2000, "p", "refused: query: not yet\n"),
+        ("p,", 2001, "p", "refused: query:1:4002: deep\n"),
+    ] {
+        let query = repeated(alloc, part, count, end)?;
+        let line = format!(in alloc; "run|--query|{query}|a")?;
+        let program = ByteText::from_slice(alloc, b"p :- q a. q b.")?;
+        let (bytes, _) = run_with(alloc, line.as_str(), Some(program), 0, (0, 0))?;
+        assert_eq!(rt; bytes.as_slice(), written.as_bytes(), "{part} {count}");
     }
     Ok(())
 }

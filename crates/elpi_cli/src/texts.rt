@@ -1,20 +1,12 @@
-// From the bytes of a program and of a query to what the search runs.
-ghost use Rattle.std.specs.Prelude.{◌≡◌, IfOk, OnOk, Some};
+// From the bytes of texts to their trees, or the lines that refuse them.
+ghost use Rattle.std.specs.Prelude.{◌≡◌, IfOk};
 ghost use Rattle.std.specs.String.{string_bytes};
-ghost use Rattle.std.specs.Prelude.{codes};
-ghost use Rattle.elpi_cli.specs.HornProgram.{IsProgram};
-ghost use Rattle.elpi_cli.specs.Symbols.{reserved_names};
-ghost use Rattle.elpi_cli.specs.Resolve.{are_built, is_horn_query};
-ghost use Rattle.elpi_cli.specs.Texts.{items_of, goal_of, where_built, not_yet_line, refused_line, token_line};
-ghost use Rattle.elpi_cli.specs.Conversion.{BeginsReserved};
-ghost use Rattle.elpi_cli.specs.Begins.{ReadsProgram, ReadsQuery, Parses, IsRefusal};
+ghost use Rattle.elpi_cli.specs.Texts.{items_of, goal_of, refused_line, token_line, grammar_name, byte_of, grammar_line};
+ghost use Rattle.elpi_cli.specs.Begins.{IsReading, IsReadGoal, IsRefusal, IsGrammarStop};
 
-use crate::horn::{Horn, Span};
 use crate::positions::{column_at, line_at};
-use crate::resolve::{resolve_program, resolve_query};
-use crate::symbols::Symbols;
-use lp_lexer::{LexError, tokens};
-use lp_parser::{Ast, AstGoal, ParseError, parse_program, parse_query};
+use lp_lexer::{LexError, Tokens, tokens};
+use lp_parser::{Ast, AstGoal, GrammarRule, ParseError, parse_program, parse_query};
 use std::alloc::{AllocError, Global};
 
 /// Why a text isn't run: the line that refuses it, or want of memory.
@@ -35,23 +27,7 @@ impl From<AllocError> for TextStop {
     }
 }
 
-// The refusal of a text whose form isn't built.
-fn not_yet(alloc: Global, name: &str) -> TextStop
-    ensures { IsRefusal (not_yet_line name.now) result }
-{
-    match not_yet_text(alloc, name) {
-        Ok(line) => TextStop::Refused(line),
-        Err(_) => TextStop::Memory,
-    }
-}
-
-fn not_yet_text(alloc: Global, name: &str) -> Result<String, AllocError>
-    ensures { IfOk result (λ text. string_bytes text ≡ not_yet_line name.now) }
-{
-    format!(in alloc; "refused: {name}: not yet\n")
-}
-
-// The refusal of a text whose tokens have a fault.
+// The refusal of a text that breaks a token rule.
 fn token_stop(alloc: Global, name: &str, text: &[u8], error: LexError) -> TextStop
     ensures refusal { IsRefusal (token_line name.now text.now error) result }
     ensures memory { error ≡ LexError.Memory → result ≡ TextStop.Memory }
@@ -68,7 +44,7 @@ fn token_stop(alloc: Global, name: &str, text: &[u8], error: LexError) -> TextSt
 }
 
 // The refusal of a text by a rule at a byte.
-fn refuse(alloc: Global, name: &str, text: &[u8], at: usize, rule: &str) -> TextStop
+pub fn refuse(alloc: Global, name: &str, text: &[u8], at: usize, rule: &str) -> TextStop
     ensures { IsRefusal (refused_line name.now text.now at rule.now) result }
 {
     match refused_text(alloc, name, text, at, rule) {
@@ -91,72 +67,90 @@ fn refused_text(
     format!(in alloc; "refused: {name}:{line}:{column}: {rule}\n")
 }
 
-// The items of a text that its tokens give.
-fn parse_items(alloc: Global, name: &str, text: &[u8]) -> Result<Ast, TextStop>
-    ensures { Parses (items_of name.now 0 text.now) (λ ast. where_built name.now are_built (Some ast)) result }
+// The name of a rule of the grammar.
+fn grammar_name(rule: GrammarRule) -> &'static str
+    ensures { result.now ≡ grammar_name rule }
+{
+    match rule {
+        GrammarRule::Item => "item",
+        GrammarRule::Kind => "kind",
+        GrammarRule::TypeItem => "type",
+        GrammarRule::Pred => "pred",
+        GrammarRule::Constraint => "constraint",
+        GrammarRule::Rule => "rule",
+        GrammarRule::Clause => "clause",
+        GrammarRule::Query => "query",
+    }
+}
+
+// The first byte of the token with an index, or the end of the text where there is none.
+fn byte_of(tokens: &Tokens, index: usize) -> usize
+    ensures { result ≡ byte_of tokens.now index }
+{
+    if index < tokens.len() {
+        tokens.get(index).at
+    } else {
+        tokens.text_len()
+    }
+}
+
+// The refusal of a text by a rule at the token with an index.
+fn refuse_at(
+    alloc: Global,
+    name: &str,
+    text: &[u8],
+    tokens: &Tokens,
+    index: usize,
+    rule: &str,
+) -> TextStop
+    requires { tokens.now.text ≡ text.now }
+    ensures { IsRefusal (grammar_line name.now tokens.now index rule.now) result }
+{
+    refuse(alloc, name, text, byte_of(tokens, index), rule)
+}
+
+// The refusal of a text that the grammar or its nesting refuses.
+fn grammar_stop(
+    alloc: Global,
+    name: &str,
+    text: &[u8],
+    tokens: &Tokens,
+    error: ParseError,
+) -> TextStop
+    requires { tokens.now.text ≡ text.now }
+    ensures { IsGrammarStop name.now tokens.now error result }
+{
+    match error {
+        ParseError::Unexpected(index, rule) => {
+            refuse_at(alloc, name, text, tokens, index, grammar_name(rule))
+        }
+        ParseError::Deep(index) => refuse_at(alloc, name, text, tokens, index, "deep"),
+        ParseError::Memory => TextStop::Memory,
+    }
+}
+
+// The items of a text, or the refusal of the text by its tokens or the grammar.
+pub fn read_items(alloc: Global, name: &str, text: &[u8]) -> Result<Ast, TextStop>
+    ensures { IsReading (items_of name.now 0 text.now) result }
 {
     match tokens(alloc, text) {
         Err(error) => Err(token_stop(alloc, name, text, error)),
         Ok(tokens) => match parse_program(alloc, &tokens, 0) {
-            Err(ParseError::Memory) => Err(TextStop::Memory),
-            Err(ParseError::NotYet) => Err(not_yet(alloc, name)),
+            Err(error) => Err(grammar_stop(alloc, name, text, &tokens, error)),
             Ok(ast) => Ok(ast),
         },
     }
 }
 
-// The goal of a query's text that its tokens give.
-fn parse_goal(alloc: Global, text: &[u8]) -> Result<AstGoal, TextStop>
-    ensures { Parses (goal_of text.now) (λ goal. where_built (codes "query") is_horn_query (Some goal)) result }
+// The goal of a query's text, or the refusal of the text by its tokens or the grammar.
+pub fn read_goal(alloc: Global, text: &[u8]) -> Result<AstGoal, TextStop>
+    ensures { IsReadGoal (goal_of text.now) result }
 {
     match tokens(alloc, text) {
         Err(error) => Err(token_stop(alloc, "query", text, error)),
         Ok(tokens) => match parse_query(alloc, &tokens) {
-            Err(ParseError::Memory) => Err(TextStop::Memory),
-            Err(ParseError::NotYet) => Err(not_yet(alloc, "query")),
+            Err(error) => Err(grammar_stop(alloc, "query", text, &tokens, error)),
             Ok(goal) => Ok(goal),
-        },
-    }
-}
-
-// The program of a text, and the table of its symbols, or the refusal of the text.
-pub fn read_program(
-    alloc: Global,
-    name: &str,
-    text: &[u8],
-    symbols: &mut Symbols,
-) -> Result<Horn, TextStop>
-    requires { symbols.old ≡ reserved_names }
-    ensures reserved { OnOk result (BeginsReserved symbols.new) }
-    ensures program { ReadsProgram (items_of name.now 0 text.now) symbols.new result }
-{
-    match parse_items(alloc, name, text) {
-        Err(stop) => Err(stop),
-        Ok(ast) => match resolve_program(alloc, &ast, symbols) {
-            Err(_) => Err(TextStop::Memory),
-            Ok(None) => Err(not_yet(alloc, name)),
-            Ok(Some(horn)) => Ok(horn),
-        },
-    }
-}
-
-// The query of a text, whose atoms the program gets, or the refusal of the text.
-pub fn read_query(
-    alloc: Global,
-    text: &[u8],
-    symbols: &mut Symbols,
-    horn: &mut Horn,
-) -> Result<Span, TextStop>
-    requires reserved { BeginsReserved symbols.old }
-    requires program { IsProgram horn.old }
-    ensures { ReadsQuery (goal_of text.now) symbols.old symbols.new horn.old horn.new result }
-{
-    match parse_goal(alloc, text) {
-        Err(stop) => Err(stop),
-        Ok(goal) => match resolve_query(alloc, &goal, symbols, horn) {
-            Err(_) => Err(TextStop::Memory),
-            Ok(None) => Err(not_yet(alloc, "query")),
-            Ok(Some(span)) => Ok(span),
         },
     }
 }

@@ -4,24 +4,27 @@ ghost use Rattle.std.specs.String.{string_bytes};
 ghost use Rattle.lam_io.specs.Faults.{Rose, HasCause};
 ghost use Rattle.lam_io.specs.Reads.{bytes_of};
 ghost use Rattle.lam_io.specs.Writes.{Appended};
-ghost use Rattle.lp_parser.specs.declared.ast.Item.{Item};
 ghost use Rattle.elpi_cli.specs.Words.{texts, command};
 ghost use Rattle.elpi_cli.specs.Written.{IsStop, Emits};
 ghost use Rattle.elpi_cli.specs.Texts.{with_file, with_items, items_of};
+ghost use Rattle.elpi_cli.specs.Static.{file_entry};
 ghost use Rattle.elpi_cli.specs.Output.{line_only};
-ghost use Rattle.elpi_cli.specs.Begins.{IsRefusal};
-ghost use Rattle.elpi_cli.specs.Top.{output, files_output, query_output, texts_output, word_at, known_files, IsRunOf, IsStatusOf};
+ghost use Rattle.elpi_cli.specs.Begins.{IsRefusal, Begins};
+ghost use Rattle.elpi_cli.specs.Top.{output, files_output, texts_output, word_at, known_files, IsRunOf, IsStatusOf};
 ghost use Rattle.elpi_cli.specs.Causes.{ComesBy, ComesExactlyBy, IsComplete, IsDone, IsNoAnswer, IsBadWord, IsRefused, IsFault, IsOutOfSteps, IsMissing, IsTooLong};
 ghost use Rattle.elpi_cli.specs.Prepared.{Prepares, Loads, prepared_output, status_of, IsFileStatus, IsTextStatus};
 
+use crate::built::{Engine, build_engine};
 use crate::horn::Horn;
 use crate::machine::Machine;
 use crate::search::{answer_query, close};
+use crate::static_rules::check_program;
 use crate::status::Status;
-use crate::symbols::Symbols;
-use crate::texts::{TextStop, read_program, read_query};
+use crate::texts::{TextStop, read_goal, read_items};
 use crate::words::{Command, WordsStop, read_words};
 use lam_io::{FileFail, Files, Sink};
+use lp_parser::Ast;
+use lp_resolve::Symbols;
 use std::alloc::{AllocError, Global};
 
 const FILE_LIMIT: usize = 4_194_304;
@@ -173,7 +176,7 @@ fn load<F: Files>(
     }
 }
 
-// Begins the search of a text that was read.
+// Reads the texts of the file and of the query, and begins the search.
 fn begin(
     alloc: Global,
     name: &str,
@@ -182,20 +185,39 @@ fn begin(
     answers: u64,
     text: &[u8],
 ) -> Result<Prepared, AllocError>
-    ensures prepared { IfOk result (λ prepared. texts_output steps answers query.now (with_items (items_of name.now 0 text.now) (Ok [])) ≡ prepared_output prepared) }
+    ensures prepared { IfOk result (λ prepared. texts_output steps answers query.now (file_entry name.now text.now ∷ []) (with_items name.now (items_of name.now 0 text.now) (Ok [])) ≡ prepared_output prepared) }
     ensures status { IfOk result (λ prepared. IsTextStatus (status_of prepared)) }
 {
-    let mut symbols = Symbols::new(alloc)?;
-    match read_program(alloc, name, text, &mut symbols) {
+    match read_items(alloc, name, text) {
         Err(stop) => refused(stop),
-        Ok(mut horn) => match read_query(alloc, query.as_bytes(), &mut symbols, &mut horn) {
+        Ok(ast) => match engine_for(alloc, name, query, text, &ast) {
             Err(stop) => refused(stop),
-            Ok(span) => Ok(Prepared::Search(Job {
-                machine: Machine::start(alloc, span)?,
-                horn,
+            Ok(engine) => Ok(Prepared::Search(Job {
+                horn: engine.horn,
+                machine: engine.machine,
                 steps,
                 answers,
             })),
+        },
+    }
+}
+
+// Checks the program of the file's items, reads the query, and makes the engine for both.
+fn engine_for(
+    alloc: Global,
+    name: &str,
+    query: &str,
+    text: &[u8],
+    ast: &Ast,
+) -> Result<Engine, TextStop>
+    ensures { Begins (file_entry name.now text.now) ast.now query.now result }
+{
+    let mut symbols = Symbols::new(alloc)?;
+    match check_program(alloc, name, text, ast, &mut symbols) {
+        Err(stop) => Err(stop),
+        Ok(checked) => match read_goal(alloc, query.as_bytes()) {
+            Err(stop) => Err(stop),
+            Ok(goal) => build_engine(alloc, name, ast, &checked, &goal, &mut symbols),
         },
     }
 }

@@ -1,0 +1,14 @@
+pub mod Arguments
+pub mod BeginsLemmas
+pub mod ClauseLemmas
+pub mod FormedLemmas
+pub mod OccurrenceLemmas
+pub mod ProgramLemmas
+pub mod PutLemmas
+pub mod ReadsAsLemmas
+pub mod Replacing
+pub mod RuleFormed
+pub mod RuleLemmas
+pub mod SymbolPlaces
+pub mod TreeForms
+pub mod TreesReplaced

@@ -1,0 +1,114 @@
+//! The table of symbols.
+ghost use Rattle.std.specs.Prelude.{◌≡◌, ◌<◌, [], length, map, slice_index_or, IfOk, OnOk, OnErr};
+ghost use Rattle.lp_resolve.specs.Symbols.{reserved_names, number_of, interned, interned_all, Begins};
+
+use indexmap::IndexSet;
+use ref_terms::Sym;
+use std::alloc::{AllocError, Global};
+use std::marker::Model;
+
+// The reserved names, and after them two words of tests.
+const FIRST_NAMES: [&str; 25] = [
+    "true",
+    "fail",
+    "!",
+    ",",
+    ";",
+    "=>",
+    ":-",
+    "pi",
+    "sigma",
+    "=",
+    "same",
+    "var",
+    "name",
+    "is",
+    "lt",
+    "print",
+    "beta",
+    "declare_constraint",
+    "[]",
+    "::",
+    "+",
+    "-",
+    "*",
+    "nonvar",
+    "distinct",
+];
+
+/// The texts of the symbols, each at its number, which contracts see as the list of these texts.
+#[derive(Debug, Drop)]
+pub struct Symbols {
+    texts: IndexSet<Vec<u8>>,
+}
+
+impl Model for Symbols {
+    ghost use Rattle.std.specs.Prelude.{List, ℕ, map};
+
+    ghost Value = { List (List ℕ) };
+
+    ghost view = { λ symbols. map (λ text. text.items) symbols.texts.keys };
+}
+
+impl Symbols {
+    /// The table of the reserved names and of the words of tests.
+    ///
+    /// Errors: want of memory.
+    pub fn new(alloc: Global) -> Result<Symbols, AllocError>
+        ensures { IfOk result (λ symbols. symbols ≡ reserved_names) }
+    {
+        let mut symbols = Symbols {
+            texts: IndexSet::new(alloc),
+        };
+        symbols.intern_all(&FIRST_NAMES)?;
+        Ok(symbols)
+    }
+
+    // Puts these texts last, each where it is new.
+    fn intern_all(&mut self, texts: &[&str]) -> Result<(), AllocError>
+        ensures { OnOk result (self.new ≡ interned_all self.old (map (λ text. text.now) texts.now)) }
+    {
+        for text in texts {
+            self.intern(text.as_bytes())?;
+        }
+        Ok(())
+    }
+
+    /// The number of a text, which goes last where it is new. So equal texts have one number, and the
+    /// names that were there keep theirs.
+    ///
+    /// Errors: want of memory, which changes nothing.
+    pub fn intern(&mut self, text: &[u8]) -> Result<Sym, AllocError>
+        ensures interned { OnOk result (self.new ≡ interned self.old text.now) }
+        ensures number { IfOk result (λ symbol. symbol.0 ≡ number_of self.new text.now) }
+        ensures within { IfOk result (λ symbol. symbol.0 < length self.new) }
+        ensures begins { Begins self.old self.new }
+        ensures unchanged { OnErr result (self.new ≡ self.old) }
+    {
+        if let Some(number) = self.texts.get_index_of(text) {
+            return Ok(Sym(number));
+        }
+        let number = self.texts.len();
+        let text = Vec::from_slice(*self.texts.allocator(), text)?;
+        self.texts.insert(text)?;
+        Ok(Sym(number))
+    }
+
+    /// The text of a symbol of this table. Takes no memory.
+    pub fn name_of(&self, symbol: Sym) -> &[u8]
+        requires { symbol.0 < length self.now }
+        ensures { result.now ≡ slice_index_or self.now symbol.0 [] }
+    {
+        match self.texts.get_index(symbol.0) {
+            Some(text) => text.as_slice(),
+            None => &[],
+        }
+    }
+
+    /// How many symbols there are. Takes no memory.
+    pub fn len(&self) -> usize
+        ensures { result ≡ length self.now }
+    {
+        self.texts.len()
+    }
+}
