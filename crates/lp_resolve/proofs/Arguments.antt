@@ -1,9 +1,9 @@
 -- Terms with arguments.
-use Rattle.std.proofs.Common.{◌≡◌, ◌∙◌, ℕ, ◌<◌, Bool, true, false, List, [], ◌∷◌, ◌++◌, Option, Some, None, length, map, sym, ap, refl, arith}
+use Rattle.std.proofs.Common.{◌≡◌, ◌∙◌, ℕ, ◌<◌, ◌≤◌, Bool, true, false, ◌&&◌, List, [], ◌∷◌, ◌++◌, Option, Some, None, length, map, sym, ap, refl, arith}
 use Rattle.ref_terms.specs.terms.Term.{Term, Lam, At, App}
 use Rattle.ref_terms.specs.terms.Apply.{apply}
 use Rattle.ref_terms.specs.unification.Spine.{apply_all}
-use Rattle.lp_resolve.specs.Trees.{with_arguments}
+use Rattle.lp_resolve.specs.Trees.{with_arguments, Shape, are_none}
 use Rattle.lp_resolve.specs.Build.{bound_index}
 
 -- an application is no bound name
@@ -20,3 +20,14 @@ applied-unbound f of (x ∷ xs) some = sym (applied-never f (of x) (map of xs))
 pub with-last : (f : Term) (ts : List Term) (t : Term) → with_arguments f (ts ++ t ∷ []) ≡ App (with_arguments f ts) t
 with-last f [] t = refl
 with-last f (u ∷ us) t = with-last (App f u) us t
+
+-- some arguments
+pub some-arguments : {A : Type 0} (b : Bool) (of : A → Shape) (xs : List A) → 0 < length xs → b && are_none (map of xs) ≡ false
+some-arguments b of [] some = absurd (omega arith)
+some-arguments true of (x ∷ xs) some = refl
+some-arguments false of (x ∷ xs) some = refl
+
+-- no arguments
+pub no-arguments : {A : Type 0} (f : Term) (of : A → Term) (xs : List A) → length xs ≤ 0 → with_arguments f (map of xs) ≡ f
+no-arguments f of [] none = refl
+no-arguments f of (x ∷ xs) none = absurd (omega arith)
