@@ -1,6 +1,11 @@
 pub mod Applying
 pub mod Arguments
 pub mod Contracting
+pub mod Levels
+pub mod Numbered
+pub mod Positions
+pub mod ReadingForms
+pub mod ReadingSteps
 pub mod Replacing
 pub mod Shapes
 pub mod SymbolPlaces
