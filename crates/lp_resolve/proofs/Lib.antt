@@ -1,13 +1,16 @@
 pub mod Applying
 pub mod Arguments
 pub mod Contracting
+pub mod Counts
 pub mod Levels
 pub mod Numbered
 pub mod Positions
 pub mod ReadingForms
 pub mod ReadingSteps
 pub mod Replacing
+pub mod Results
 pub mod Shapes
 pub mod SymbolPlaces
 pub mod TreeForms
 pub mod TreesReplaced
+pub mod Within

@@ -154,11 +154,13 @@ fn read(
         }
         AstTerm::List(_, elements, tail) => {
             let elements = read_all(alloc, elements.as_slice(), symbols, scope, variables)?;
-            let tail = match tail {
-                Some(tail) => read(alloc, tail.get(), symbols, scope, variables)?,
-                None => atom(alloc, Head::Con(NIL)),
-            };
-            list_tree(alloc, elements, tail)
+            match tail {
+                Some(tail) => {
+                    let tail = read(alloc, tail.get(), symbols, scope, variables)?;
+                    list_tree(alloc, elements, tail)
+                }
+                None => list_tree(alloc, elements, atom(alloc, Head::Con(NIL))),
+            }
         }
     }
 }
