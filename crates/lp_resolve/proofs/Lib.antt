@@ -5,6 +5,7 @@ pub mod Counts
 pub mod Levels
 pub mod Numbered
 pub mod Positions
+pub mod ReadingFacts
 pub mod ReadingForms
 pub mod ReadingSteps
 pub mod Replacing
@@ -12,5 +13,6 @@ pub mod Results
 pub mod Shapes
 pub mod SymbolPlaces
 pub mod TreeForms
+pub mod TreeOf
 pub mod TreesReplaced
 pub mod Within

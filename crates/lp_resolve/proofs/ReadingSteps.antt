@@ -12,7 +12,7 @@ use Rattle.lp_parser.specs.declared.ast.AstTerm.{AstTerm}
 use Rattle.lp_parser.specs.declared.ast.AstTerm.TheVariants.{Word, Str, App, Bind, Op, Quant, List as Listed}
 use Rattle.ref_terms.specs.terms.Term as term
 use Rattle.ref_terms.specs.terms.Term.{Term}
-use Rattle.ref_terms.specs.terms.Apply.{apply}
+use Rattle.ref_terms.specs.unification.Spine.{apply_all}
 use Rattle.ref_terms.specs.terms.Eta.{lam}
 use Rattle.ref_terms.specs.declared.tree.Tree.{Tree}
 use Rattle.lp_resolve.specs.Symbols.{number_of, interned, interned_all, Begins}
@@ -62,14 +62,16 @@ read-str table scope met t text p w tree is number within same fits = record {
 }
 
 -- an application
-pub read-app : (table last : List (List ℕ)) (scope : List ℕ) (met between after : Met) (t h : AstTerm) (ts : List AstTerm) (f tree : Tree)
-    → t ≡ App h ts → IsRead table scope met h between f → Begins table last
-    → IsReadBy (λ later. application (constant (as_term f)) (map (reading later) ts)) last scope between after tree
+pub read-app : (table last : List (List ℕ)) (scope : List ℕ) (met between after : Met) (t h : AstTerm) (ts : List AstTerm) (f : Tree) (trees : List Tree) (tree : Tree)
+    → t ≡ App h ts → IsRead table scope met h between f → Begins table last → AreRead last scope between ts after trees
+    → as_term tree ≡ apply_all (as_term f) (map as_term trees) → IsTrue (shape tree).fits
     → IsRead last scope met t after tree
-read-app table last scope met between after t h ts f tree is head grows rest = record {
-  fits = rest.fits;
+read-app table last scope met between after t h ts f trees tree is head grows rest same fits = record {
+  fits = fits;
   reads = λ later b. ap (λ (u : AstTerm). reading later u scope met) is ∙ ap (λ (r : Reader). r scope met) (reads-app later h ts)
-      ∙ ap (λ (first : Reading). application (constant first.term) (map (reading later) ts) scope first.met) (head.reads later (begins-twice table last later grows b)) ∙ rest.reads later b;
+      ∙ ap (λ (first : Reading). application (constant first.term) (map (reading later) ts) scope first.met) (head.reads later (begins-twice table last later grows b))
+      ∙ ap (λ (r : Readings). record { term = apply_all (as_term f) r.terms; met = r.met }) (rest.reads later b)
+      ∙ ap (λ (x : Term). record { term = x; met = after }) (sym same);
 }
 
 -- an abstraction
@@ -143,31 +145,6 @@ rest-none [] zero h = refl
 rest-none [] (suc i) h = refl
 rest-none (x ∷ xs) zero h = absurd (omega arith)
 rest-none (x ∷ xs) (suc i) h = rest-none xs i (omega arith)
-
--- one more argument is applied
-pub step-applied : (terms : List AstTerm) (i : ℕ) (x : AstTerm) → i < length terms → x ≡ get_or terms i x
-    → (table new : List (List ℕ)) (scope first next : List ℕ) (met between after : Met) (whole f argument g : Tree)
-    → ((later : List (List ℕ)) → Begins table later → application (constant (as_term f)) (map (reading later) (drop i terms)) scope between ≡ application (constant (as_term whole)) (map (reading later) terms) first met)
-    → Begins table new → IsRead new scope between x after argument → next ≡ scope → as_term g ≡ apply (as_term f) (as_term argument)
-    → (later : List (List ℕ)) → Begins new later
-    → application (constant (as_term g)) (map (reading later) (drop (i + 1) terms)) next after ≡ application (constant (as_term whole)) (map (reading later) terms) first met
-step-applied terms i x within is table new scope first next met between after whole f argument g so grows read same applied later b =
-    let rest = map (reading later) (drop (i + 1) terms) in
-    ap (λ (s : List ℕ). application (constant (as_term g)) rest s after) same
-    ∙ ap (λ (a : Term). application (constant a) rest scope after) applied
-    ∙ sym (ap (λ (r : Reading). application (constant (apply (as_term f) r.term)) rest scope r.met) (read.reads later b))
-    ∙ sym (ap (λ (ts : List AstTerm). application (constant (as_term f)) (map (reading later) ts) scope between) (rest-is terms i x within is))
-    ∙ so later (begins-twice table new later grows b)
-
--- all arguments are applied
-pub all-applied : (terms : List AstTerm) (i : ℕ) → length terms ≤ i
-    → (table : List (List ℕ)) (scope first : List ℕ) (met after : Met) (whole f : Tree)
-    → ((later : List (List ℕ)) → Begins table later → application (constant (as_term f)) (map (reading later) (drop i terms)) scope after ≡ application (constant (as_term whole)) (map (reading later) terms) first met)
-    → IsTrue (shape f).fits → IsReadBy (λ later. application (constant (as_term whole)) (map (reading later) terms)) table first met after f
-all-applied terms i none table scope first met after whole f so fits = record {
-  fits = fits;
-  reads = λ later b. sym (so later b) ∙ ap (λ (ts : List AstTerm). application (constant (as_term f)) (map (reading later) ts) scope after) (rest-none terms i none);
-}
 
 -- one more term is read
 pub step-read : (terms : List AstTerm) (i : ℕ) (x : AstTerm) → i < length terms → x ≡ get_or terms i x

@@ -2,6 +2,7 @@
 ghost use Rattle.std.specs.Prelude.{◌≡◌, ◌++◌, ◌∷◌, [], None, Some, IfOk, IfSome, IsTrue, map};
 ghost use Rattle.std.specs.Option.{option_map};
 ghost use Rattle.ref_terms.specs.terms.Apply.{apply};
+ghost use Rattle.ref_terms.specs.unification.Spine.{apply_all};
 ghost use Rattle.ref_terms.specs.terms.Eta.{partial, lower, eta, lam};
 ghost use Rattle.ref_terms.specs.terms.Index.{sub, first};
 ghost use Rattle.ref_terms.specs.terms.Term as term;
@@ -251,10 +252,8 @@ fn opened(alloc: Global, body: &Tree, index: usize) -> Result<Tree, AllocError>
     }
 }
 
-/// The tree applied to an argument.
-///
-/// Errors: want of memory.
-pub(crate) fn applied(alloc: Global, tree: Tree, argument: Tree) -> Result<Tree, AllocError>
+// The tree applied to an argument.
+fn applied(alloc: Global, tree: Tree, argument: Tree) -> Result<Tree, AllocError>
     requires tree { IsTrue (shape tree).fits }
     requires argument { IsTrue (shape argument).fits }
     ensures term { IfOk result (λ new. as_term new ≡ apply (as_term tree) (as_term argument)) }
@@ -283,4 +282,26 @@ fn stuck(alloc: Global, body: Boxed<Tree>, argument: Tree) -> Result<Tree, Alloc
     arguments.push(argument)?;
     let abstraction = Boxed::new(alloc, Tree::Lam(body))?;
     Ok(Tree::Ap(Head::Stuck(abstraction), arguments))
+}
+
+/// The tree applied to these arguments, from the left.
+///
+/// Errors: want of memory.
+pub(crate) fn applied_all(
+    alloc: Global,
+    function: Tree,
+    arguments: Args,
+) -> Result<Tree, AllocError>
+    requires function { IsTrue (shape function).fits }
+    requires arguments { IsTrue (all_fit (map shape arguments)) }
+    ensures term { IfOk result (λ tree. as_term tree ≡ apply_all (as_term function) (map as_term arguments)) }
+    ensures fits { IfOk result (λ tree. IsTrue (shape tree).fits) }
+{
+    let mut rest = arguments.into_vec();
+    rest.reverse();
+    let mut tree = function;
+    while let Some(argument) = rest.pop() {
+        tree = applied(alloc, tree, argument)?;
+    }
+    Ok(tree)
 }

@@ -10,7 +10,7 @@ ghost use Rattle.lp_resolve.specs.Reading.{Reading, reading, constant, word, app
 ghost use Rattle.lp_resolve.specs.Reads.{IsReadBy, IsRead, AreRead};
 ghost use Rattle.lp_resolve.specs.Queries.{query_of, IsFormedQuery};
 
-use crate::build::{abstraction, applied};
+use crate::build::{abstraction, applied_all};
 use crate::query::Query;
 use crate::scope::Scope;
 use crate::symbols::Symbols;
@@ -127,14 +127,8 @@ fn read(
         }
         AstTerm::App(head, arguments) => {
             let function = read(alloc, head.get(), symbols, scope, variables)?;
-            read_arguments(
-                alloc,
-                arguments.as_slice(),
-                function,
-                symbols,
-                scope,
-                variables,
-            )
+            let arguments = read_all(alloc, arguments.as_slice(), symbols, scope, variables)?;
+            applied_all(alloc, function, arguments)
         }
         AstTerm::Bind(text, _, body) => {
             let word = symbols.intern(text.as_slice())?;
@@ -163,29 +157,6 @@ fn read(
             }
         }
     }
-}
-
-// The function applied to the trees of these terms.
-#[cycle(read)]
-fn read_arguments(
-    alloc: Global,
-    arguments: &[AstTerm],
-    mut function: Tree,
-    symbols: &mut Symbols,
-    scope: &mut Scope,
-    variables: &mut Variables,
-) -> Result<Tree, AllocError>
-    requires fits { IsTrue (shape function).fits }
-    ensures table { OnOk result (symbols.new ≡ interned_all symbols.old (flat_map texts_of arguments.now)) }
-    ensures begins { Begins symbols.old symbols.new }
-    ensures scope { OnOk result (scope.new ≡ scope.old) }
-    ensures read { IfOk result (IsReadBy (λ later. application (constant (as_term function)) (map (reading later) arguments.now)) symbols.new scope.old variables.old variables.new) }
-{
-    for argument in arguments {
-        let argument = read(alloc, argument, symbols, scope, variables)?;
-        function = applied(alloc, function, argument)?;
-    }
-    Ok(function)
 }
 
 // The trees of these terms.

@@ -3,21 +3,9 @@ use Rattle.std.specs.Prelude.{IsTrue, flat_map}
 use Rattle.lp_resolve.specs.Symbols.{interned_all, Begins}
 use Rattle.lp_resolve.specs.Texts.{texts_of}
 use Rattle.lp_resolve.specs.Trees.{as_term, shape, all_fit}
-use Rattle.lp_resolve.specs.Reading.{Readings, read_all, reading, constant, application}
+use Rattle.lp_resolve.specs.Reading.{Readings, read_all, reading}
 use Rattle.lp_resolve.proofs.ReadingSteps.{after_terms}
 use Rattle.lp_resolve.proofs.read.+read.Given as goal
-
--- the function with the arguments so far, applied to those that are left, is what all are read as
-abbrev pub invariant-read_arguments-loop-argument : goal.invariant-read_arguments-loop-argument
-invariant-read_arguments-loop-argument l = record {
-  fits : IsTrue (shape l.function).fits;
-  begins : Begins l.initial.symbols l.symbols;
-  scope : l.scope ≡ l.initial.scope;
-  table : interned_all l.symbols (flat_map texts_of (drop l.argument-index l.arguments)) ≡ interned_all l.initial.symbols (flat_map texts_of l.arguments);
-  reads : (later : List (List ℕ)) → Begins l.symbols later
-      → application (constant (as_term l.function)) (map (reading later) (drop l.argument-index l.arguments)) l.scope l.variables
-      ≡ application (constant (as_term l.initial.function)) (map (reading later) l.arguments) l.initial.scope l.initial.variables;
-}
 
 -- the trees so far, before those of the terms that are left, are what all are read as
 abbrev pub invariant-read_all-loop-term : goal.invariant-read_all-loop-term
