@@ -15,7 +15,7 @@ use crate::query::Query;
 use crate::scope::Scope;
 use crate::symbols::Symbols;
 use crate::variables::Variables;
-use lp_parser::{AstGoal, AstTerm, Operator, Place, Word, WordKind};
+use lp_parser::{AstGoal, AstTerm, AstTerms, Operator, Place, Word, WordKind};
 use ref_terms::{Args, Head, Sequence, Sym, Tree};
 use std::alloc::{AllocError, Global};
 
@@ -127,7 +127,7 @@ fn read(
         }
         AstTerm::App(head, arguments) => {
             let function = read(alloc, head.get(), symbols, scope, variables)?;
-            let arguments = read_all(alloc, arguments.as_slice(), symbols, scope, variables)?;
+            let arguments = read_all(alloc, arguments, symbols, scope, variables)?;
             applied_all(alloc, function, arguments)
         }
         AstTerm::Bind(text, _, body) => {
@@ -147,7 +147,7 @@ fn read(
             constant_of_one(alloc, quantifier_symbol(*universal), body)
         }
         AstTerm::List(_, elements, tail) => {
-            let elements = read_all(alloc, elements.as_slice(), symbols, scope, variables)?;
+            let elements = read_all(alloc, elements, symbols, scope, variables)?;
             match tail {
                 Some(tail) => {
                     let tail = read(alloc, tail.get(), symbols, scope, variables)?;
@@ -163,7 +163,7 @@ fn read(
 #[cycle(read)]
 fn read_all(
     alloc: Global,
-    terms: &[AstTerm],
+    terms: &AstTerms,
     symbols: &mut Symbols,
     scope: &mut Scope,
     variables: &mut Variables,
@@ -174,7 +174,7 @@ fn read_all(
     ensures read { IfOk result (AreRead symbols.new scope.old variables.old terms.now variables.new) }
 {
     let mut trees = Sequence::new(alloc);
-    for term in terms {
+    for term in terms.as_slice() {
         let tree = read(alloc, term, symbols, scope, variables)?;
         trees.push(tree)?;
     }

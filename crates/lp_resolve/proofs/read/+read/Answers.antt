@@ -80,7 +80,7 @@ read-returns-in_ok-body-in-Quant-clause-read t c =
 pub read_all-loop-term-preserved : goal.read_all-loop-term-preserved
 read_all-loop-term-preserved t c =
     let i = c.loop-term.term-index in
-    let terms = c.args.terms.now in
+    let terms = c.as_slice-term-items.result.now in
     let x = c.term-item.result in
     let images : map shape c.push.new.self ≡ map shape c.loop-term.trees ++ shape c.in_ok-tree.tree ∷ [] = ap (λ (ts : List Tree). map shape ts) c.in_ok-push.ensures.last ∙ map-append shape c.loop-term.trees (c.in_ok-tree.tree ∷ []) in
     record {
@@ -94,13 +94,15 @@ read_all-loop-term-preserved t c =
 
 pub read_all-returns-clause-read : goal.read_all-returns-clause-read
 read_all-returns-clause-read t c =
-    all-read c.args.terms.now c.loop-term.term-index c.loop-term-test.false c.loop-term.symbols c.loop-term.scope c.args.scope.now c.args.variables.now c.loop-term.variables c.loop-term.trees
-        c.loop-term.invariant.reads c.loop-term.invariant.fit
+    let terms = c.as_slice-term-items.result.now in
+    subst (λ (ts : List AstTerm). AreRead c.loop-term.symbols c.args.scope.now c.args.variables.now ts c.loop-term.variables c.loop-term.trees) c.as_slice-term-items.ensures
+        (all-read terms c.loop-term.term-index c.loop-term-test.false c.loop-term.symbols c.loop-term.scope c.args.scope.now c.args.variables.now c.loop-term.variables c.loop-term.trees
+          c.loop-term.invariant.reads c.loop-term.invariant.fit)
 
 pub read-returns-in_ok-tail-in-Some-clause-table : goal.read-returns-in_ok-tail-in-Some-clause-table
 read-returns-in_ok-tail-in-Some-clause-table t c =
     let elements : c.read_all-in-List.new.symbols ≡ interned_all c.args.symbols.now (flat_map texts_of c.in-List.elements) =
-        c.in_ok-elements-in-List.ensures.table ∙ ap (λ (ts : List AstTerm). interned_all c.args.symbols.now (flat_map texts_of ts)) c.as_slice-in-List.ensures in
+        c.in_ok-elements-in-List.ensures.table in
     let tail : c.read-in-Some.new.symbols ≡ interned_all c.read_all-in-List.new.symbols (texts_of c.in-Some.tail) =
         c.in_ok-tail-in-Some.ensures.table ∙ ap (λ (t : AstTerm). interned_all c.read_all-in-List.new.symbols (texts_of t)) c.get-in-Some.ensures in
     let is : c.args.term.now ≡ Listed c.in-List.field-0 c.in-List.elements (Some c.in-Some.tail) = c.in-List.is ∙ ap (Listed c.in-List.field-0 c.in-List.elements) c.in-Some.is in
@@ -111,7 +113,7 @@ read-returns-in_ok-tail-in-Some-clause-read t c =
     let last = c.read-in-Some.new.symbols in
     let trees = c.in_ok-elements-in-List.elements in
     let elements : AreRead c.read_all-in-List.new.symbols c.args.scope.now c.args.variables.now c.in-List.elements c.read_all-in-List.new.variables trees =
-        subst (λ (ts : List AstTerm). AreRead c.read_all-in-List.new.symbols c.args.scope.now c.args.variables.now ts c.read_all-in-List.new.variables trees) c.as_slice-in-List.ensures c.in_ok-elements-in-List.ensures.read in
+        c.in_ok-elements-in-List.ensures.read in
     let Given : AstTerm → List ℕ → Type 0 = λ t s. IsRead last s c.read_all-in-List.new.variables t c.read-in-Some.new.variables c.in_ok-tail-in-Some.tail in
     let tail : IsRead last c.args.scope.now c.read_all-in-List.new.variables c.in-Some.tail c.read-in-Some.new.variables c.in_ok-tail-in-Some.tail =
         subst (λ (s : List ℕ). Given c.in-Some.tail s) c.in_ok-elements-in-List.ensures.scope (subst (λ (t : AstTerm). Given t c.read_all-in-List.new.scope) c.get-in-Some.ensures c.in_ok-tail-in-Some.ensures.read) in
@@ -124,7 +126,7 @@ read-returns-in_ok-tail-in-Some-clause-read t c =
 pub read-returns-in-None-clause-table : goal.read-returns-in-None-clause-table
 read-returns-in-None-clause-table t c =
     let elements : c.read_all-in-List.new.symbols ≡ interned_all c.args.symbols.now (flat_map texts_of c.in-List.elements) =
-        c.in_ok-elements-in-List.ensures.table ∙ ap (λ (ts : List AstTerm). interned_all c.args.symbols.now (flat_map texts_of ts)) c.as_slice-in-List.ensures in
+        c.in_ok-elements-in-List.ensures.table in
     let is : c.args.term.now ≡ Listed c.in-List.field-0 c.in-List.elements None = c.in-List.is ∙ ap (Listed c.in-List.field-0 c.in-List.elements) c.in-None.is in
     on-ok-any c.list_tree-in-None.result _ (table-untailed c.args.symbols.now c.read_all-in-List.new.symbols c.args.term.now c.in-List.field-0 c.in-List.elements is elements)
 
@@ -132,7 +134,7 @@ pub read-returns-in-None-clause-read : goal.read-returns-in-None-clause-read
 read-returns-in-None-clause-read t c =
     let trees = c.in_ok-elements-in-List.elements in
     let elements : AreRead c.read_all-in-List.new.symbols c.args.scope.now c.args.variables.now c.in-List.elements c.read_all-in-List.new.variables trees =
-        subst (λ (ts : List AstTerm). AreRead c.read_all-in-List.new.symbols c.args.scope.now c.args.variables.now ts c.read_all-in-List.new.variables trees) c.as_slice-in-List.ensures c.in_ok-elements-in-List.ensures.read in
+        c.in_ok-elements-in-List.ensures.read in
     let is : c.args.term.now ≡ Listed c.in-List.field-0 c.in-List.elements None = c.in-List.is ∙ ap (Listed c.in-List.field-0 c.in-List.elements) c.in-None.is in
     if-ok-two c.list_tree-in-None.result (λ (tree : Tree). as_term tree ≡ list_term (map as_term trees) (as_term c.atom-in-None.result)) (λ (tree : Tree). IsTrue (shape tree).fits) _
         (λ tree same fits. read-untailed c.read_all-in-List.new.symbols c.args.scope.now c.args.variables.now c.read_all-in-List.new.variables c.args.term.now c.in-List.field-0 c.in-List.elements
@@ -143,7 +145,7 @@ pub read-returns-in_ok-arguments-in-App-clause-table : goal.read-returns-in_ok-a
 read-returns-in_ok-arguments-in-App-clause-table t c =
     let head : c.read.new.symbols ≡ interned_all c.args.symbols.now (texts_of c.in-App.head) = c.in_ok-function-in-App.ensures.table ∙ ap (λ (t : AstTerm). interned_all c.args.symbols.now (texts_of t)) c.get.ensures in
     let rest : c.read_all.new.symbols ≡ interned_all c.read.new.symbols (flat_map texts_of c.in-App.arguments) =
-        c.in_ok-arguments-in-App.ensures.table ∙ ap (λ (ts : List AstTerm). interned_all c.read.new.symbols (flat_map texts_of ts)) c.as_slice-in-App.ensures in
+        c.in_ok-arguments-in-App.ensures.table in
     on-ok-any c.applied_all.result _ (table-app c.args.symbols.now c.read.new.symbols c.read_all.new.symbols c.args.term.now c.in-App.head c.in-App.arguments c.in-App.is head rest)
 
 pub read-returns-in_ok-arguments-in-App-clause-read : goal.read-returns-in_ok-arguments-in-App-clause-read
@@ -154,11 +156,8 @@ read-returns-in_ok-arguments-in-App-clause-read t c =
         subst (λ (t : AstTerm). IsRead c.read.new.symbols c.args.scope.now c.args.variables.now t c.read.new.variables c.in_ok-function-in-App.function) c.get.ensures c.in_ok-function-in-App.ensures.read in
     let Given : List AstTerm → List ℕ → Type 0 = λ ts s. AreRead last s c.read.new.variables ts c.read_all.new.variables trees in
     let rest : AreRead last c.args.scope.now c.read.new.variables c.in-App.arguments c.read_all.new.variables trees =
-        subst (λ (s : List ℕ). Given c.in-App.arguments s) c.in_ok-function-in-App.ensures.scope (subst (λ (ts : List AstTerm). Given ts c.read.new.scope) c.as_slice-in-App.ensures c.in_ok-arguments-in-App.ensures.read) in
+        subst (λ (s : List ℕ). Given c.in-App.arguments s) c.in_ok-function-in-App.ensures.scope c.in_ok-arguments-in-App.ensures.read in
     if-ok-two c.applied_all.result (λ (tree : Tree). as_term tree ≡ apply_all (as_term c.in_ok-function-in-App.function) (map as_term trees)) (λ (tree : Tree). IsTrue (shape tree).fits) _
         (λ tree same fits. read-app c.read.new.symbols last c.args.scope.now c.args.variables.now c.read.new.variables c.read_all.new.variables c.args.term.now c.in-App.head c.in-App.arguments
           c.in_ok-function-in-App.function trees tree c.in-App.is head c.in_ok-arguments-in-App.ensures.begins rest same fits)
         c.applied_all.ensures.term c.applied_all.ensures.fits
-
-pub read-read_all-requires : goal.read-read_all-requires
-read-read_all-requires t c = first_of (search rules depth 7, search rules depth 9 fits 40, search rules depth 12 fits 80)
