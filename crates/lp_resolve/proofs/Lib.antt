@@ -1,8 +1,11 @@
 pub mod Arguments
 pub mod BeginsLemmas
+pub mod BreachLemmas
 pub mod ClauseLemmas
 pub mod FormedLemmas
 pub mod OccurrenceLemmas
+pub mod PartLemmas
+pub mod PredicateLemmas
 pub mod ProgramLemmas
 pub mod PutLemmas
 pub mod ReadsAsLemmas

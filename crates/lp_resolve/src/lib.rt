@@ -6,6 +6,7 @@ mod checked;
 mod clauses;
 mod gather;
 mod items;
+mod laws;
 mod occurrences;
 mod parts;
 mod placed;
@@ -23,6 +24,7 @@ mod variable;
 mod variables;
 
 pub use checked::Checked;
+pub use laws::{law_first_breach, law_predicates};
 pub use preds::Preds;
 pub use program::{
     ClausePlaces, ClauseTree, HeadTree, PairTree, Pred, PredLine, Program, RulePlaces, RuleTree,
