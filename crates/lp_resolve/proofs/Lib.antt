@@ -10,6 +10,7 @@ pub mod Levels
 pub mod Numbered
 pub mod OccurrenceLemmas
 pub mod PartLemmas
+pub mod PlacesFacts
 pub mod Positions
 pub mod PredicateLemmas
 pub mod ProgramLemmas

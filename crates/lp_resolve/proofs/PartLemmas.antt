@@ -11,7 +11,7 @@ use Rattle.lp_resolve.specs.Treed.{tree_of}
 use Rattle.lp_resolve.specs.ProgramReading.{Read, read_tree, read_variable}
 use Rattle.lp_resolve.specs.ReadsAs.{ReadsAs}
 use Rattle.lp_resolve.proofs.BeginsLemmas.{number-later}
-use Rattle.lp_resolve.proofs.ReadingFacts.{tree_of-as_term}
+use Rattle.lp_resolve.proofs.TreeOf.{tree_of-as_term}
 
 -- a term
 pub term-read : (table : List (List ℕ)) (met after : Met) (t : AstTerm) (tree : Tree) → IsRead table [] met t after tree → ReadsAs read_tree table met t tree after
