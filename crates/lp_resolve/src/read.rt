@@ -8,12 +8,13 @@ ghost use Rattle.lp_resolve.specs.Trees.{as_term, head_term, shape, head_shape, 
 ghost use Rattle.lp_resolve.specs.Variables.{number_in, met_word};
 ghost use Rattle.lp_resolve.specs.Reading.{Reading, reading, constant, word, application, reserved, operator_name, quantifier_name, list_term};
 ghost use Rattle.lp_resolve.specs.Reads.{IsReadBy, IsRead, AreRead};
-ghost use Rattle.lp_resolve.specs.Queries.{query_of, IsFormedQuery};
+ghost use Rattle.lp_resolve.specs.Queries.{query_var, query_of, IsFormedQuery};
 
 use crate::build::{abstraction, applied_all};
-use crate::query::Query;
+use crate::query::{Query, QueryVar, QueryVars};
 use crate::scope::Scope;
 use crate::symbols::Symbols;
+use crate::variable::Variable;
 use crate::variables::Variables;
 use lp_parser::{AstGoal, AstTerm, AstTerms, Operator, Place, Word, WordKind};
 use ref_terms::{Args, Head, Sequence, Sym, Tree};
@@ -245,6 +246,24 @@ pub(crate) fn read_variable(
     variables.meet_word(symbol, word.place)
 }
 
+// The variables of a query.
+fn query_vars(
+    alloc: Global,
+    names: &[Variable],
+    symbols: &Symbols,
+) -> Result<QueryVars, AllocError>
+    ensures { IfOk result (λ vars. vars ≡ map (query_var symbols.now) names.now) }
+{
+    let mut vars = QueryVars::new(alloc);
+    for variable in names {
+        vars.push(QueryVar {
+            name: variable.name,
+            shown: !symbols.begins_low(variable.name),
+        })?;
+    }
+    Ok(vars)
+}
+
 /// The query of a goal, whose words go into the table.
 ///
 /// Errors: want of memory, after which the table only has grown.
@@ -258,5 +277,8 @@ pub fn resolve_query(
     ensures query { IfOk result (λ query. query ≡ query_of symbols.new goal.now) }
     ensures formed { IfOk result IsFormedQuery }
 {
-    Err(AllocError)
+    let mut variables = Variables::new(alloc);
+    let tree = read_term(alloc, &goal.term, symbols, &mut variables)?;
+    let vars = query_vars(alloc, variables.names(), symbols)?;
+    Ok(Query { vars, goal: tree })
 }
