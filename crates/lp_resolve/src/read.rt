@@ -247,11 +247,7 @@ pub(crate) fn read_variable(
 }
 
 // The variables of a query.
-fn query_vars(
-    alloc: Global,
-    names: &[Variable],
-    symbols: &Symbols,
-) -> Result<QueryVars, AllocError>
+fn query_vars(alloc: Global, names: &[Variable], symbols: &Symbols) -> Result<QueryVars, AllocError>
     ensures { IfOk result (λ vars. vars ≡ map (query_var symbols.now) names.now) }
 {
     let mut vars = QueryVars::new(alloc);
