@@ -16,6 +16,7 @@ use Rattle.lp_resolve.proofs.Counts.{count, count_head}
 use Rattle.lp_resolve.proofs.OccurrenceLemmas.{length-occurrences-ap}
 use Rattle.lp_resolve.proofs.ReadingFacts.{reads-well}
 
+
 -- an abstraction
 walked-lam : (body : Tree) → walked (Lam body) ≡ walked_at (Tree-F.Lam (walked body))
 walked-lam body = ap walked (sym (rolls-Lam body)) ∙ fold-roll-Tree Front Walked front_at walked_at (Tree-F.Lam body)
