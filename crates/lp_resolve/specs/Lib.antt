@@ -1,6 +1,7 @@
 pub mod Build
 pub mod Gathered
 pub mod Heads
+pub mod Laws
 pub mod Occurrences
 pub mod Places
 pub mod Plain
