@@ -46,7 +46,11 @@ length-lam body = ap (λ w. length w.places) (walked-lam body)
 
 -- how many places the tree of a term has, before these arguments
 length-before : (t : Term) (args : List Tree) → length (occurrences (tree_before args t)) ≡ count t + sum_by (λ a. length (occurrences a)) args
-length-before (term.App f a) args = omega (arith, length-before f (tree_before [] a ∷ args), length-before a [])
+length-before (term.App f a) args =
+    let whole : length (occurrences (tree_before args (term.App f a))) ≡ count f + (length (occurrences (tree_before [] a)) + sum_by (λ x. length (occurrences x)) args) =
+      length-before f (tree_before [] a ∷ args) in
+    let inner : length (occurrences (tree_before [] a)) ≡ count a + 0 = length-before a [] in
+    omega arith
 length-before (term.At h) args =
     length-occurrences-ap (head_of h) args ∙ ap (λ n. n + sum_by (λ a. length (occurrences a)) args) (length-front h (map (λ a. a.name) (map walked args)))
 length-before (term.Lam b) [] = length-lam (tree_before [] b) ∙ length-before b []
