@@ -36,11 +36,6 @@ pub no-arguments : {A : Type 0} (f : Term) (of : A → Term) (xs : List A) → l
 no-arguments f of [] none = refl
 no-arguments f of (x ∷ xs) none = absurd (omega arith)
 
--- a list reversed twice
-pub reversed-twice : {A : Type 0} (xs : List A) → reverse (reverse xs) ≡ xs
-reversed-twice [] = refl
-reversed-twice (x ∷ xs) = ap reverse (reverse-append (x ∷ []) xs) ∙ reverse-append (reverse xs) (x ∷ []) ∙ ap (λ ys. x ∷ ys) (reversed-twice xs)
-
 -- two tests that hold together
 halves : (a b : Bool) → IsTrue (a && b) → IsTrue a × IsTrue b
 halves true true h = (refl, refl)

@@ -46,6 +46,7 @@ partial-sub p s h (Lam b) = ap (option_map Lam) (partial-sub (up_partial p) (und
   moved : (o : Option ℕ) (t : Term) → option_map (λ j. At (Bound j)) o ≡ Some t → option_map (λ j. At (Bound j)) (option_map next o) ≡ Some (shift t)
   moved None t e = absurd (let bad = e in cc)
   moved (Some j) t e = let same : At (Bound j) ≡ t = cc in ap (λ u. Some (shift u)) same
+
   deeper : (n : ℕ) → option_map (λ j. At (Bound j)) (up_partial p n) ≡ Some (under s n)
   deeper zero = refl
   deeper (suc n) = moved (p n) (s n) (h n)

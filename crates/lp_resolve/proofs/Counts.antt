@@ -74,6 +74,7 @@ count-apply (Lam b) a = at (ready a) refl where
   opened : count a ≡ 0 → (i : ℕ) → count (first a i) ≡ 0
   opened e zero = e
   opened e (suc i) = refl
+
   at : (r : Bool) → ready a ≡ r → count (cond r (sub (first a) b) (App (Lam b) a)) ≡ count b + count a
   at true e = omega (arith, count-sub (first a) (opened (count-ready a e)) b, count-ready a e)
   at false e = refl
@@ -118,10 +119,12 @@ count-lam b = made (eta b) (contracted b) where
   kept (At (Var v)) f o k = tt
   kept (Lam c) f o k = tt
   kept (App g a) f o k = tt
+
   contracted : (t : Term) → IfSome (eta t) (λ u. count u ≡ count t)
   contracted (Lam c) = tt
   contracted (At h) = tt
   contracted (App f a) = kept a f (lower f) (count-partial previous f)
+
   made : (o : Option Term) → IfSome o (λ u. count u ≡ count b) → count (lam_of o b) ≡ count b
   made None k = refl
   made (Some t) k = k

@@ -20,8 +20,8 @@ level-position [] w = refl
 level-position (b ∷ outer) w =
     at (nat_eq w b.word) (level_of outer w) (position (nat_eq w) (words_of outer)) (level-position outer w) (λ l e. level-within outer w l e)
     ∙ sym (position-cons (nat_eq w) b.word (words_of outer)) where
-  at : (t : Bool) (o p : Option ℕ) → option_map (λ l. length outer - 1 - l) o ≡ p → ((l : ℕ) → Some l ≡ o → l < length outer)
-      → option_map (λ l. suc (length outer) - 1 - l) (cond t (Some (length outer)) o) ≡ cond t (Some 0) (later p)
-  at true o p same within = ap Some (omega arith)
-  at false None p same within = ap later same
-  at false (Some l) p same within = ap Some (omega (arith, within l refl)) ∙ ap later same
+      at : (t : Bool) (o p : Option ℕ) → option_map (λ l. length outer - 1 - l) o ≡ p → ((l : ℕ) → Some l ≡ o → l < length outer)
+          → option_map (λ l. suc (length outer) - 1 - l) (cond t (Some (length outer)) o) ≡ cond t (Some 0) (later p)
+      at true o p same within = ap Some (omega arith)
+      at false None p same within = ap later same
+      at false (Some l) p same within = ap Some (omega (arith, within l refl)) ∙ ap later same

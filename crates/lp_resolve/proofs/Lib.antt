@@ -15,6 +15,7 @@ pub mod Positions
 pub mod PredicateLemmas
 pub mod ProgramLemmas
 pub mod PutLemmas
+pub mod QueryFacts
 pub mod ReadingFacts
 pub mod ReadingForms
 pub mod ReadingSteps

@@ -33,14 +33,14 @@ pub numbered-new : (names : List Variable) (old new : ℕ → Option ℕ) (w : �
     → AreNumbered (names ++ variable w false ∷ []) new
 numbered-new names old new w are none is q =
     is q ∙ at (nat_eq w q) refl (nat_eq q w) refl (position (is_of q) names) refl ∙ sym (position-push (is_of q) names (variable w false)) where
-  at : (t : Bool) → nat_eq w q ≡ t → (u : Bool) → nat_eq q w ≡ u → (o : Option ℕ) → position (is_of q) names ≡ o
-      → cond t (Some (length names)) (old q) ≡ or_else o (cond (not false && u) (Some (length names)) None)
-  at true e true f None h = refl
-  at true e u f (Some i) h =
-      let same : w ≡ q = eqb-true w q e in
-      let bad : None ≡ Some i = none ∙ are w ∙ ap (λ (k : ℕ). position (is_of k) names) same ∙ h in
-      absurd (cc)
-  at true e false f None h = absurd (let bad : true ≡ false = sym (nat_eq_equiv.refl q) ∙ ap (nat_eq q) (sym (eqb-true w q e)) ∙ f in cc)
-  at false e u f (Some i) h = are q ∙ h
-  at false e false f None h = are q ∙ h
-  at false e true f None h = absurd (let bad : true ≡ false = sym (nat_eq_equiv.refl w) ∙ ap (nat_eq w) (sym (eqb-true q w f)) ∙ e in cc)
+      at : (t : Bool) → nat_eq w q ≡ t → (u : Bool) → nat_eq q w ≡ u → (o : Option ℕ) → position (is_of q) names ≡ o
+          → cond t (Some (length names)) (old q) ≡ or_else o (cond (not false && u) (Some (length names)) None)
+      at true e true f None h = refl
+      at true e u f (Some i) h =
+          let same : w ≡ q = eqb-true w q e in
+          let bad : None ≡ Some i = none ∙ are w ∙ ap (λ (k : ℕ). position (is_of k) names) same ∙ h in
+          absurd (cc)
+      at true e false f None h = absurd (let bad : true ≡ false = sym (nat_eq_equiv.refl q) ∙ ap (nat_eq q) (sym (eqb-true w q e)) ∙ f in cc)
+      at false e u f (Some i) h = are q ∙ h
+      at false e false f None h = are q ∙ h
+      at false e true f None h = absurd (let bad : true ≡ false = sym (nat_eq_equiv.refl w) ∙ ap (nat_eq w) (sym (eqb-true q w f)) ∙ e in cc)

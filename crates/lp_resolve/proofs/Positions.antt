@@ -34,11 +34,11 @@ position-push p [] y = position-cons p y [] ∙ at (p y) where
 position-push p (x ∷ xs) y =
     position-cons p x (xs ++ y ∷ []) ∙ ap (λ o. cond (p x) (Some 0) (later o)) (position-push p xs y)
     ∙ at (p x) (p y) (position p xs) ∙ ap (λ o. or_else o (cond (p y) (Some (suc (length xs))) None)) (sym (position-cons p x xs)) where
-  at : (t u : Bool) (o : Option ℕ) → cond t (Some 0) (later (or_else o (cond u (Some (length xs)) None))) ≡ or_else (cond t (Some 0) (later o)) (cond u (Some (suc (length xs))) None)
-  at true u o = refl
-  at false u (Some i) = refl
-  at false true None = refl
-  at false false None = refl
+      at : (t u : Bool) (o : Option ℕ) → cond t (Some 0) (later (or_else o (cond u (Some (length xs)) None))) ≡ or_else (cond t (Some 0) (later o)) (cond u (Some (suc (length xs))) None)
+      at true u o = refl
+      at false u (Some i) = refl
+      at false true None = refl
+      at false false None = refl
 
 -- a place that is found passes
 pub any-found : {A : Type 0} (p : A → Bool) (xs : List A) (i : ℕ) → Some i ≡ position p xs → list_any p xs ≡ true

@@ -55,13 +55,14 @@ last-fits (t ∷ shapes) s all =
     let at = both t.fits (all_fit (shapes ++ s ∷ [])) all in
     let rest = last-fits shapes s at.1 in
     (joined t.fits (all_fit shapes) at.0 rest.0, rest.1) where
-  both : (a b : Bool) → IsTrue (a && b) → IsTrue a × IsTrue b
-  both true true h = (refl, refl)
-  both true false h = absurd (let bad = h in cc)
-  both false b h = absurd (let bad = h in cc)
-  joined : (a b : Bool) → IsTrue a → IsTrue b → IsTrue (a && b)
-  joined true b h k = k
-  joined false b h k = absurd (let bad = h in cc)
+      both : (a b : Bool) → IsTrue (a && b) → IsTrue a × IsTrue b
+      both true true h = (refl, refl)
+      both true false h = absurd (let bad = h in cc)
+      both false b h = absurd (let bad = h in cc)
+
+      joined : (a b : Bool) → IsTrue a → IsTrue b → IsTrue (a && b)
+      joined true b h k = k
+      joined false b h k = absurd (let bad = h in cc)
 
 -- a term that isn't an abstraction
 abbrev pub IsOpen : Term → Type 0
@@ -75,13 +76,13 @@ open-head h e =
     let term = fold_out-Head Term Term head_as_term tree_as_term h in
     let form = fold_out-Head Shape Shape head_shape_at shape_at h in
     subst IsOpen (sym term) (layer (out-Head h) (ap (λ (s : Shape). s.abstraction) (sym form) ∙ e)) where
-  layer : (l : Head-F Head Tree) → (head_shape_at (map-Head Head Tree Shape Shape head_shape shape l)).abstraction ≡ false → IsOpen (head_as_term (map-Head Head Tree Term Term head_term as_term l))
-  layer (Head-F.Con c) e = tt
-  layer (Head-F.Int z) e = tt
-  layer (Head-F.Str s) e = tt
-  layer (Head-F.Bound i) e = tt
-  layer (Head-F.ClauseVar i) e = tt
-  layer (Head-F.Stuck b) e = absurd (let bad = e in cc)
+      layer : (l : Head-F Head Tree) → (head_shape_at (map-Head Head Tree Shape Shape head_shape shape l)).abstraction ≡ false → IsOpen (head_as_term (map-Head Head Tree Term Term head_term as_term l))
+      layer (Head-F.Con c) e = tt
+      layer (Head-F.Int z) e = tt
+      layer (Head-F.Str s) e = tt
+      layer (Head-F.Bound i) e = tt
+      layer (Head-F.ClauseVar i) e = tt
+      layer (Head-F.Stuck b) e = absurd (let bad = e in cc)
 
 -- an application is none
 open-applied : (f a : Term) (ts : List Term) → IsOpen (with_arguments (App f a) ts)
@@ -119,13 +120,13 @@ nameless-head h e =
     let term = fold_out-Head Term Term head_as_term tree_as_term h in
     let form = fold_out-Head Shape Shape head_shape_at shape_at h in
     subst IsNoName (sym term) (layer (out-Head h) (ap (λ (s : Shape). s.abstraction) (sym form) ∙ e)) where
-  layer : (l : Head-F Head Tree) → (head_shape_at (map-Head Head Tree Shape Shape head_shape shape l)).abstraction ≡ false → IsNoName (head_as_term (map-Head Head Tree Term Term head_term as_term l))
-  layer (Head-F.Con c) e = tt
-  layer (Head-F.Int z) e = tt
-  layer (Head-F.Str s) e = tt
-  layer (Head-F.Bound i) e = tt
-  layer (Head-F.ClauseVar i) e = tt
-  layer (Head-F.Stuck b) e = absurd (let bad = e in cc)
+      layer : (l : Head-F Head Tree) → (head_shape_at (map-Head Head Tree Shape Shape head_shape shape l)).abstraction ≡ false → IsNoName (head_as_term (map-Head Head Tree Term Term head_term as_term l))
+      layer (Head-F.Con c) e = tt
+      layer (Head-F.Int z) e = tt
+      layer (Head-F.Str s) e = tt
+      layer (Head-F.Bound i) e = tt
+      layer (Head-F.ClauseVar i) e = tt
+      layer (Head-F.Stuck b) e = absurd (let bad = e in cc)
 
 -- nor is an application
 nameless-applied : (f a : Term) (ts : List Term) → IsNoName (with_arguments (App f a) ts)
@@ -146,11 +147,11 @@ nameless-tree t e =
     let term = fold_out-Tree Term Term head_as_term tree_as_term t in
     let form = fold_out-Tree Shape Shape head_shape_at shape_at t in
     subst IsNoName (sym term) (layer (out-Tree t) (ap (λ (s : Shape). s.fits) (sym form) ∙ e)) where
-  layer : (l : Tree-F Head Tree) → IsTrue (shape_at (map-Tree Head Tree Shape Shape head_shape shape l)).fits → IsNoName (tree_as_term (map-Tree Head Tree Term Term head_term as_term l))
-  layer (Tree-F.Lam b) e = tt
-  layer (Tree-F.Ap head arguments) e =
-      let all = parts (head_shape head).fits ((head_shape head).abstraction && are_none (map shape arguments)) (all_fit (map shape arguments)) e in
-      nameless-ap head arguments (record { head_fits = all.0; some = all.1; arguments_fit = all.2 })
+      layer : (l : Tree-F Head Tree) → IsTrue (shape_at (map-Tree Head Tree Shape Shape head_shape shape l)).fits → IsNoName (tree_as_term (map-Tree Head Tree Term Term head_term as_term l))
+      layer (Tree-F.Lam b) e = tt
+      layer (Tree-F.Ap head arguments) e =
+          let all = parts (head_shape head).fits ((head_shape head).abstraction && are_none (map shape arguments)) (all_fit (map shape arguments)) e in
+          nameless-ap head arguments (record { head_fits = all.0; some = all.1; arguments_fit = all.2 })
 
 -- a head that isn't stuck, with its arguments
 pub fits-plain : (head : Head) (arguments : List Tree) → head_shape head ≡ plain → IsTrue (all_fit (map shape arguments)) → IsTrue (shape (Ap head arguments)).fits
@@ -164,13 +165,13 @@ eta-head h e =
     let form = fold_out-Head Shape Shape head_shape_at shape_at h in
     let P : Term → Type 0 = λ t. None ≡ eta t in
     subst P (sym term) (layer (out-Head h) (ap (λ (s : Shape). s.abstraction) (sym form) ∙ e)) where
-  layer : (l : Head-F Head Tree) → (head_shape_at (map-Head Head Tree Shape Shape head_shape shape l)).abstraction ≡ false → None ≡ eta (head_as_term (map-Head Head Tree Term Term head_term as_term l))
-  layer (Head-F.Con c) e = refl
-  layer (Head-F.Int z) e = refl
-  layer (Head-F.Str s) e = refl
-  layer (Head-F.Bound i) e = refl
-  layer (Head-F.ClauseVar i) e = refl
-  layer (Head-F.Stuck b) e = absurd (let bad = e in cc)
+      layer : (l : Head-F Head Tree) → (head_shape_at (map-Head Head Tree Shape Shape head_shape shape l)).abstraction ≡ false → None ≡ eta (head_as_term (map-Head Head Tree Term Term head_term as_term l))
+      layer (Head-F.Con c) e = refl
+      layer (Head-F.Int z) e = refl
+      layer (Head-F.Str s) e = refl
+      layer (Head-F.Bound i) e = refl
+      layer (Head-F.ClauseVar i) e = refl
+      layer (Head-F.Stuck b) e = absurd (let bad = e in cc)
 
 -- the same of a tree
 pub eta-ap : (head : Head) (arguments : List Tree) → length arguments ≤ 0 → IsTrue (shape (Ap head arguments)).fits → None ≡ eta (as_term (Ap head arguments))
@@ -178,9 +179,9 @@ eta-ap head [] none fits =
     let f = ap-fits head [] fits in
     let P : Term → Type 0 = λ t. None ≡ eta t in
     subst P (sym (term-ap head [])) (eta-head head (first (head_shape head).abstraction f.some)) where
-  first : (a : Bool) → (a && true) ≡ false → a ≡ false
-  first true h = h
-  first false h = refl
+      first : (a : Bool) → (a && true) ≡ false → a ≡ false
+      first true h = h
+      first false h = refl
 eta-ap head (a ∷ arguments) none fits = absurd (omega arith)
 
 -- one more argument
@@ -193,7 +194,7 @@ fits-pushed head arguments a f one =
       some = never (head_shape head).abstraction (map shape arguments) (shape a);
       arguments_fit = fit-last (map shape arguments) (shape a) f.arguments_fit one;
     })) where
-  never : (b : Bool) (shapes : List Shape) (s : Shape) → b && are_none (shapes ++ s ∷ []) ≡ false
-  never true [] s = refl
-  never true (t ∷ shapes) s = refl
-  never false shapes s = refl
+      never : (b : Bool) (shapes : List Shape) (s : Shape) → b && are_none (shapes ++ s ∷ []) ≡ false
+      never true [] s = refl
+      never true (t ∷ shapes) s = refl
+      never false shapes s = refl

@@ -74,10 +74,10 @@ lam-term t e =
     let form = fold_out-Tree Shape Shape head_shape_at shape_at t in
     let found = layer (out-Tree t) (ap (λ (s : Shape). s.abstraction) (sym form) ∙ e) in
     (found.0, whole ∙ found.1) where
-  layer : (l : Tree-F Head Tree) → IsTrue (shape_at (map-Tree Head Tree Shape Shape head_shape shape l)).abstraction
-      → (b : Term) × (tree_as_term (map-Tree Head Tree Term Term head_term as_term l) ≡ term.Lam b)
-  layer (Tree-F.Lam b) e = (as_term b, refl)
-  layer (Tree-F.Ap head args) e = absurd (let bad = e in cc)
+      layer : (l : Tree-F Head Tree) → IsTrue (shape_at (map-Tree Head Tree Shape Shape head_shape shape l)).abstraction
+          → (b : Term) × (tree_as_term (map-Tree Head Tree Term Term head_term as_term l) ≡ term.Lam b)
+      layer (Tree-F.Lam b) e = (as_term b, refl)
+      layer (Tree-F.Ap head args) e = absurd (let bad = e in cc)
 
 -- the tree of a spine
 before-spine : (f : Term) (ts : List Term) (args : List Tree) → tree_before args (with_arguments f ts) ≡ tree_before (map tree_of ts ++ args) f
@@ -122,7 +122,7 @@ head-layer (Head-F.Bound i) args f = subst (λ (h : Head). tree_before args (hea
 head-layer (Head-F.ClauseVar v) args f = subst (λ (h : Head). tree_before args (head_term h) ≡ Ap h args) (sym (rolls-ClauseVar v)) (ap (tree_before args) (term-variable v))
 head-layer (Head-F.Stuck e) args f =
     subst (λ (h : Head). tree_before args (head_term h) ≡ Ap h args) (sym (rolls-Stuck e.0))
-        (ap (tree_before args) (term-stuck e.0) ∙ stuck-back e.0 e.1 args (subst (λ (h : Head). Fits (head_shape h) (map shape args)) (rolls-Stuck e.0) f))
+    (ap (tree_before args) (term-stuck e.0) ∙ stuck-back e.0 e.1 args (subst (λ (h : Head). Fits (head_shape h) (map shape args)) (rolls-Stuck e.0) f))
 
 -- trees that are given back, as a list
 all-back : (es : List ((t : Tree) × IsBack t)) → IsTrue (all_fit (map shape (map (λ e. e.0) es))) → map tree_of (map as_term (map (λ e. e.0) es)) ≡ map (λ e. e.0) es
@@ -135,14 +135,14 @@ all-back (e ∷ es) h =
 tree-layer : (y : Tree-F ((h : Head) × IsHeadBack h) ((t : Tree) × IsBack t)) → IsBack (roll-Tree (map-Tree ((h : Head) × IsHeadBack h) ((t : Tree) × IsBack t) Head Tree (λ e. e.0) (λ e. e.0) y))
 tree-layer (Tree-F.Lam e) =
     subst IsBack (sym (rolls-Lam e.0)) (λ fits.
-      ap tree_of (term-lam e.0) ∙ ap Lam (e.1 (ap (λ (s : Shape). s.fits) (sym (shape-lam e.0)) ∙ fits)))
+    ap tree_of (term-lam e.0) ∙ ap Lam (e.1 (ap (λ (s : Shape). s.fits) (sym (shape-lam e.0)) ∙ fits)))
 tree-layer (Tree-F.Ap d es) =
     subst IsBack (sym (rolls-Ap d.0 (map (λ e. e.0) es))) (λ fits.
-      let args = map (λ e. e.0) es in
-      let f = ap-fits d.0 args fits in
-      ap tree_of (term-ap d.0 args) ∙ before-spine (head_term d.0) (map as_term args) []
-      ∙ ap (λ (ts : List Tree). tree_before ts (head_term d.0)) (append-nil (map tree_of (map as_term args)) ∙ all-back es f.arguments_fit)
-      ∙ d.1 args f)
+    let args = map (λ e. e.0) es in
+    let f = ap-fits d.0 args fits in
+    ap tree_of (term-ap d.0 args) ∙ before-spine (head_term d.0) (map as_term args) []
+    ∙ ap (λ (ts : List Tree). tree_before ts (head_term d.0)) (append-nil (map tree_of (map as_term args)) ∙ all-back es f.arguments_fit)
+    ∙ d.1 args f)
 
 -- a tree that fits is the tree of its term
 pub tree_of-as_term : (tree : Tree) → IsTrue (shape tree).fits → tree_of (as_term tree) ≡ tree

@@ -57,6 +57,7 @@ within-apply n d (Lam b) a wf wa = at (ready a) where
   opened : (i : ℕ) → i < suc d → IsWithin n d (first a i)
   opened zero lt = wa
   opened (suc i) lt = let below : i < d = omega arith in below
+
   at : (r : Bool) → IsWithin n d (cond r (sub (first a) b) (App (Lam b) a))
   at true = within-sub n (suc d) d (first a) opened b wf
   at false = (wf, wa)
@@ -70,6 +71,7 @@ within-partial n d e p h (Lam b) w = at (partial (up_partial p) b) (within-parti
     moved : (o : Option ℕ) → IfSome o (λ j. j < e) → IfSome (option_map next o) (λ j. j < suc e)
     moved None k = tt
     moved (Some j) k = let below : suc j < suc e = omega arith in below
+
   at : (o : Option Term) → IfSome o (IsWithin n (suc e)) → IfSome (option_map Lam o) (IsWithin n e)
   at None k = tt
   at (Some u) k = k
@@ -108,10 +110,12 @@ within-lam n d b w = made (eta b) (contracted b w) where
   kept (At (Var v)) o k = tt
   kept (Lam c) o k = tt
   kept (App g a) o k = tt
+
   contracted : (t : Term) → IsWithin n (suc d) t → IfSome (eta t) (IsWithin n d)
   contracted (Lam c) v = tt
   contracted (At h) v = tt
   contracted (App f a) v = kept a (lower f) (within-lower n d f v.0)
+
   made : (o : Option Term) → IfSome o (IsWithin n d) → IsWithin n d (lam_of o b)
   made None k = w
   made (Some t) k = k

@@ -30,8 +30,8 @@ pub use program::{
     ClausePlaces, ClauseTree, HeadTree, PairTree, Pred, PredLine, Program, RulePlaces, RuleTree,
 };
 pub use query::{Query, QueryVar, QueryVars};
-pub use resolve::resolve_program;
 pub use read::resolve_query;
+pub use resolve::resolve_program;
 pub use static_rule::StaticRule;
 pub use symbols::Symbols;
 pub use variable::Variable;

@@ -8,14 +8,15 @@ ghost use Rattle.lp_resolve.specs.Trees.{as_term, head_term, shape, head_shape, 
 ghost use Rattle.lp_resolve.specs.Variables.{number_in, met_word};
 ghost use Rattle.lp_resolve.specs.Reading.{Reading, reading, constant, word, application, reserved, operator_name, quantifier_name, list_term};
 ghost use Rattle.lp_resolve.specs.Reads.{IsReadBy, IsRead, AreRead};
-ghost use Rattle.lp_resolve.specs.Queries.{query_of, IsFormedQuery};
+ghost use Rattle.lp_resolve.specs.Queries.{query_var, query_of, IsFormedQuery};
 
 use crate::build::{abstraction, applied_all};
-use crate::query::Query;
+use crate::query::{Query, QueryVar, QueryVars};
 use crate::scope::Scope;
 use crate::symbols::Symbols;
+use crate::variable::Variable;
 use crate::variables::Variables;
-use lp_parser::{AstGoal, AstTerm, Operator, Place, Word, WordKind};
+use lp_parser::{AstGoal, AstTerm, AstTerms, Operator, Place, Word, WordKind};
 use ref_terms::{Args, Head, Sequence, Sym, Tree};
 use std::alloc::{AllocError, Global};
 
@@ -127,7 +128,7 @@ fn read(
         }
         AstTerm::App(head, arguments) => {
             let function = read(alloc, head.get(), symbols, scope, variables)?;
-            let arguments = read_all(alloc, arguments.as_slice(), symbols, scope, variables)?;
+            let arguments = read_all(alloc, arguments, symbols, scope, variables)?;
             applied_all(alloc, function, arguments)
         }
         AstTerm::Bind(text, _, body) => {
@@ -147,7 +148,7 @@ fn read(
             constant_of_one(alloc, quantifier_symbol(*universal), body)
         }
         AstTerm::List(_, elements, tail) => {
-            let elements = read_all(alloc, elements.as_slice(), symbols, scope, variables)?;
+            let elements = read_all(alloc, elements, symbols, scope, variables)?;
             match tail {
                 Some(tail) => {
                     let tail = read(alloc, tail.get(), symbols, scope, variables)?;
@@ -163,7 +164,7 @@ fn read(
 #[cycle(read)]
 fn read_all(
     alloc: Global,
-    terms: &[AstTerm],
+    terms: &AstTerms,
     symbols: &mut Symbols,
     scope: &mut Scope,
     variables: &mut Variables,
@@ -174,7 +175,7 @@ fn read_all(
     ensures read { IfOk result (AreRead symbols.new scope.old variables.old terms.now variables.new) }
 {
     let mut trees = Sequence::new(alloc);
-    for term in terms {
+    for term in terms.as_slice() {
         let tree = read(alloc, term, symbols, scope, variables)?;
         trees.push(tree)?;
     }
@@ -245,6 +246,20 @@ pub(crate) fn read_variable(
     variables.meet_word(symbol, word.place)
 }
 
+// The variables of a query.
+fn query_vars(alloc: Global, names: &[Variable], symbols: &Symbols) -> Result<QueryVars, AllocError>
+    ensures { IfOk result (λ vars. vars ≡ map (query_var symbols.now) names.now) }
+{
+    let mut vars = QueryVars::new(alloc);
+    for variable in names {
+        vars.push(QueryVar {
+            name: variable.name,
+            shown: !symbols.begins_low(variable.name),
+        })?;
+    }
+    Ok(vars)
+}
+
 /// The query of a goal, whose words go into the table.
 ///
 /// Errors: want of memory, after which the table only has grown.
@@ -258,5 +273,8 @@ pub fn resolve_query(
     ensures query { IfOk result (λ query. query ≡ query_of symbols.new goal.now) }
     ensures formed { IfOk result IsFormedQuery }
 {
-    Err(AllocError)
+    let mut variables = Variables::new(alloc);
+    let tree = read_term(alloc, &goal.term, symbols, &mut variables)?;
+    let vars = query_vars(alloc, variables.names(), symbols)?;
+    Ok(Query { vars, goal: tree })
 }

@@ -1,6 +1,6 @@
 //! The table of symbols.
 ghost use Rattle.std.specs.Prelude.{◌≡◌, ◌<◌, [], length, map, slice_index_or, IfOk, OnOk, OnErr};
-ghost use Rattle.lp_resolve.specs.Symbols.{reserved_names, number_of, interned, interned_all, Begins};
+ghost use Rattle.lp_resolve.specs.Symbols.{reserved_names, number_of, interned, interned_all, begins_low, Begins};
 
 use indexmap::IndexSet;
 use ref_terms::Sym;
@@ -102,6 +102,19 @@ impl Symbols {
         match self.texts.get_index(symbol.0) {
             Some(text) => text.as_slice(),
             None => &[],
+        }
+    }
+
+    // Whether the text of a symbol begins with `_`.
+    pub(crate) fn begins_low(&self, symbol: Sym) -> bool
+        ensures { result ≡ begins_low (slice_index_or self.now symbol.0 []) }
+    {
+        match self.texts.get_index(symbol.0) {
+            Some(text) => match text.as_slice().first() {
+                Some(byte) => *byte == b'_',
+                None => false,
+            },
+            None => false,
         }
     }
 

@@ -16,17 +16,17 @@ use Rattle.lp_resolve.proofs.build.applied.Goals as goal
 pub returns-in-Some-clause-term : goal.returns-in-Some-clause-term
 returns-in-Some-clause-term c =
     let to : apply (as_term c.args.tree) (as_term c.args.argument) ≡ sub (first (At (Bound c.in-Some.index))) (as_term c.get.result.now) =
-        ap (λ (t : Term). apply t (as_term c.args.argument)) (ap as_term c.in-Lam.is ∙ term-lam c.in-Lam.body)
-        ∙ apply-bound (as_term c.in-Lam.body) (as_term c.args.argument) c.in-Some.index (sym c.in-Some.ensures)
-        ∙ ap (λ (t : Tree). sub (first (At (Bound c.in-Some.index))) (as_term t)) (sym c.get.ensures) in
+    ap (λ (t : Term). apply t (as_term c.args.argument)) (ap as_term c.in-Lam.is ∙ term-lam c.in-Lam.body)
+    ∙ apply-bound (as_term c.in-Lam.body) (as_term c.args.argument) c.in-Some.index (sym c.in-Some.ensures)
+    ∙ ap (λ (t : Tree). sub (first (At (Bound c.in-Some.index))) (as_term t)) (sym c.get.ensures) in
     let P : Term → Type 0 = λ t. IfOk c.opened.result (λ (new : Tree). as_term new ≡ t) in
     subst P (sym to) c.opened.ensures.term
 
 pub returns-in-None-clause-term : goal.returns-in-None-clause-term
 returns-in-None-clause-term c =
     let to : apply (as_term c.args.tree) (as_term c.args.argument) ≡ App (Lam (as_term c.in-Lam.body)) (as_term c.args.argument) =
-        ap (λ (t : Term). apply t (as_term c.args.argument)) (ap as_term c.in-Lam.is ∙ term-lam c.in-Lam.body)
-        ∙ apply-stuck (as_term c.in-Lam.body) (as_term c.args.argument) (nameless-tree c.args.argument c.requires.argument) (sym c.in-None.ensures) in
+    ap (λ (t : Term). apply t (as_term c.args.argument)) (ap as_term c.in-Lam.is ∙ term-lam c.in-Lam.body)
+    ∙ apply-stuck (as_term c.in-Lam.body) (as_term c.args.argument) (nameless-tree c.args.argument c.requires.argument) (sym c.in-None.ensures) in
     let P : Term → Type 0 = λ t. IfOk c.stuck.result (λ (new : Tree). as_term new ≡ t) in
     subst P (sym to) c.stuck.ensures.term
 

@@ -17,8 +17,8 @@ returns-in-Some-clause-term c =
     let last = c.in-Some.last.now in
     let args : c.in-Ap.arguments ≡ front ++ last ∷ [] = sym c.as_slice.ensures ∙ c.in-Some.ensures.cases.0 in
     let body : as_term c.args.body.now ≡ App (with_arguments (head_term c.in-Ap.head) (map as_term front)) (as_term last) =
-        ap as_term c.in-Ap.is ∙ term-ap c.in-Ap.head c.in-Ap.arguments ∙ ap (λ (ts : List Tree). with_arguments (head_term c.in-Ap.head) (map as_term ts)) args
-        ∙ ap (with_arguments (head_term c.in-Ap.head)) (map-append as_term front (last ∷ [])) ∙ with-last (head_term c.in-Ap.head) (map as_term front) (as_term last) in
+    ap as_term c.in-Ap.is ∙ term-ap c.in-Ap.head c.in-Ap.arguments ∙ ap (λ (ts : List Tree). with_arguments (head_term c.in-Ap.head) (map as_term ts)) args
+    ∙ ap (with_arguments (head_term c.in-Ap.head)) (map-append as_term front (last ∷ [])) ∙ with-last (head_term c.in-Ap.head) (map as_term front) (as_term last) in
     let P : Term → Type 0 = λ t. IfOk c.contracted_before.result (λ (answer : Option Tree). option_map as_term answer ≡ eta t) in
     subst P (sym body) c.contracted_before.ensures.term
 

@@ -22,7 +22,7 @@ returns-in-Some-2-clause-term c =
     let p = replacing 0 None in
     let h : option_map head_term (Some c.in-Some.head) ≡ partial p (head_term c.args.head.now) = ap (λ (o : Option Head). option_map head_term o) (sym c.in-Some.is) ∙ c.in_ok-head.ensures.term in
     let rest : option_map (map as_term) (Some c.in-Some-2.arguments) ≡ all_terms (map (λ (tree : Tree). partial p (as_term tree)) c.args.arguments.now) =
-        ap (λ (o : Option (List Tree)). option_map (map as_term) o) (sym c.in-Some-2.is) ∙ c.in_ok-arguments.ensures.terms in
+    ap (λ (o : Option (List Tree)). option_map (map as_term) o) (sym c.in-Some-2.is) ∙ c.in_ok-arguments.ensures.terms in
     ap Some (c.with_arguments.ensures.term ∙ sym (term-ap c.in-Some.head c.in-Some-2.arguments))
     ∙ replaced-terms p c.args.head.now c.args.arguments.now (Some c.in-Some.head) (Some c.in-Some-2.arguments) h rest
     ∙ lower-replacing (with_arguments (head_term c.args.head.now) (map as_term c.args.arguments.now))
@@ -32,6 +32,6 @@ returns-in-None-clause-term c =
     let p = replacing 0 None in
     let h : option_map head_term (Some c.in-Some.head) ≡ partial p (head_term c.args.head.now) = ap (λ (o : Option Head). option_map head_term o) (sym c.in-Some.is) ∙ c.in_ok-head.ensures.term in
     let rest : None ≡ all_terms (map (λ (tree : Tree). partial p (as_term tree)) c.args.arguments.now) =
-        ap (λ (o : Option (List Tree)). option_map (map as_term) o) (sym c.in-None.is) ∙ c.in_ok-arguments.ensures.terms in
+    ap (λ (o : Option (List Tree)). option_map (map as_term) o) (sym c.in-None.is) ∙ c.in_ok-arguments.ensures.terms in
     replaced-terms p c.args.head.now c.args.arguments.now (Some c.in-Some.head) None h rest
     ∙ lower-replacing (with_arguments (head_term c.args.head.now) (map as_term c.args.arguments.now))

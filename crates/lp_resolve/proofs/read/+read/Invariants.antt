@@ -13,8 +13,8 @@ invariant-read_all-loop-term l = record {
   fit : IsTrue (all_fit (map shape l.trees));
   begins : Begins l.initial.symbols l.symbols;
   scope : l.scope ≡ l.initial.scope;
-  table : interned_all l.symbols (flat_map texts_of (drop l.term-index l.terms)) ≡ interned_all l.initial.symbols (flat_map texts_of l.terms);
+  table : interned_all l.symbols (flat_map texts_of (drop l.term-index l.term-items)) ≡ interned_all l.initial.symbols (flat_map texts_of l.term-items);
   reads : (later : List (List ℕ)) → Begins l.symbols later
-      → after_terms (map as_term l.trees) (read_all (map (reading later) (drop l.term-index l.terms)) l.scope l.variables)
-      ≡ read_all (map (reading later) l.terms) l.initial.scope l.initial.variables;
+      → after_terms (map as_term l.trees) (read_all (map (reading later) (drop l.term-index l.term-items)) l.scope l.variables)
+      ≡ read_all (map (reading later) l.term-items) l.initial.scope l.initial.variables;
 }

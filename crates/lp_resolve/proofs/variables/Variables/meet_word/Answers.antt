@@ -21,7 +21,7 @@ invariant_of-self-in-Ok c =
     let w = c.args.word.0 in
     let length_is : c.len-number.result ≡ length names = c.len-number.ensures ∙ c.self.inside.names.ok.0 in
     let new = numbered-new names (λ (q : ℕ). get nat_eq c.self.inside.numbers q) (λ (q : ℕ). get nat_eq c.insert.new.self q) w c.self.invariant c.in_default.ensures.value
-          (λ q. c.in-Ok.ensures.updates.0 q ∙ ap (λ (n : ℕ). cond (nat_eq w q) (Some n) (get nat_eq c.self.inside.numbers q)) length_is) in
+    (λ q. c.in-Ok.ensures.updates.0 q ∙ ap (λ (n : ℕ). cond (nat_eq w q) (Some n) (get nat_eq c.self.inside.numbers q)) length_is) in
     let P : List Variable → Type 0 = λ vs. AreNumbered vs (λ (q : ℕ). get nat_eq c.insert.new.self q) in
     subst P (sym c.in_ok-push-2.ensures.items) new
 
