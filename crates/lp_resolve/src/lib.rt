@@ -35,3 +35,6 @@ pub use resolve::resolve_program;
 pub use static_rule::StaticRule;
 pub use symbols::Symbols;
 pub use variable::Variable;
+
+#[cfg(test)]
+mod query_tests;
