@@ -7,6 +7,7 @@ pub mod Contracting
 pub mod Counts
 pub mod FormedLemmas
 pub mod Levels
+pub mod NamedTerms
 pub mod Numbered
 pub mod OccurrenceLemmas
 pub mod PartLemmas
@@ -18,6 +19,7 @@ pub mod PutLemmas
 pub mod QueryFacts
 pub mod ReadingFacts
 pub mod ReadingForms
+pub mod ReadingNamed
 pub mod ReadingSteps
 pub mod ReadsAsLemmas
 pub mod Replacing
