@@ -12,9 +12,7 @@ mod parts;
 mod placed;
 mod preds;
 mod program;
-mod program_tests;
 mod query;
-mod query_tests;
 mod read;
 mod resolve;
 mod rules;
@@ -24,3 +22,21 @@ mod symbols;
 mod trees;
 mod variable;
 mod variables;
+
+pub use checked::Checked;
+pub use laws::{law_first_breach, law_predicates};
+pub use preds::Preds;
+pub use program::{
+    ClausePlaces, ClauseTree, HeadTree, PairTree, Pred, PredLine, Program, RulePlaces, RuleTree,
+};
+pub use query::{Query, QueryVar, QueryVars};
+pub use read::resolve_query;
+pub use resolve::resolve_program;
+pub use static_rule::StaticRule;
+pub use symbols::Symbols;
+pub use variable::Variable;
+
+#[cfg(test)]
+mod program_tests;
+#[cfg(test)]
+mod query_tests;
