@@ -8,7 +8,7 @@ use Rattle.lp_resolve.proofs.resolve.resolve_program.Goals as goal
 read_as : (c : goal.In_ok-preds) → ◌≡◌ (record { preds = c.in_ok-preds.preds; clauses = c.in_ok-lists.lists.clauses; rules = c.in_ok-lists.lists.rules; decls = c.in_ok-lists.lists.lines }) (program_of c.read_items.new.symbols c.args.ast.now)
 read_as c =
     program-same c.read_items.new.symbols c.args.ast.now c.as_slice.result.now c.in_ok-lists.lists.lines c.as_slice-2.result.now c.in_ok-lists.lists.clauses c.as_slice-3.result.now c.in_ok-lists.lists.rules c.in_ok-preds.preds
-      c.as_slice.ensures c.in_ok-lists.ensures.lines c.in_ok-lists.ensures.clauses c.in_ok-lists.ensures.rules c.as_slice-2.ensures c.as_slice-3.ensures c.in_ok-preds.ensures
+    c.as_slice.ensures c.in_ok-lists.ensures.lines c.in_ok-lists.ensures.clauses c.in_ok-lists.ensures.rules c.as_slice-2.ensures c.as_slice-3.ensures c.in_ok-preds.ensures
 
 pub returns-clause-program : goal.returns-clause-program
 returns-clause-program c = read_as c
