@@ -37,4 +37,6 @@ pub use symbols::Symbols;
 pub use variable::Variable;
 
 #[cfg(test)]
+mod program_tests;
+#[cfg(test)]
 mod query_tests;
