@@ -32,7 +32,7 @@ returns-clause-named c =
     let table = c.read_term.new.symbols in
     let t = c.args.goal.now.term in
     let read : IsRead table [] nothing_met t c.read_term.new.variables c.in_ok-tree.tree =
-        subst (λ (m : Met). IsRead table [] m t c.read_term.new.variables c.in_ok-tree.tree) c.new-variables.ensures c.in_ok-tree.ensures.read in
+    subst (λ (m : Met). IsRead table [] m t c.read_term.new.variables c.in_ok-tree.tree) c.new-variables.ensures c.in_ok-tree.ensures.read in
     let are : c.in_ok-vars.vars ≡ map (query_var table) c.read_term.new.variables.names = c.in_ok-vars.ensures ∙ ap (λ (ns : List Variable). map (query_var table) ns) c.names.ensures in
     let reserved = begins-twice reserved_names c.args.symbols.now table c.begins_reserved.ensures c.in_ok-tree.ensures.begins in
     let texts = subst (λ (ts : List (List ℕ)). AreIn ts (texts_of t)) (sym c.in_ok-tree.ensures.table) (interned-in c.args.symbols.now (texts_of t)) in
