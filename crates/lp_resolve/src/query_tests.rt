@@ -157,7 +157,7 @@ fn the_nearest_binder_decides(rt: HostRuntime) -> Result<(), AllocError> {
         variable(a, "X")?,
     )?;
     assert_eq!(rt; resolved(a, term)?.as_str(), "c3 (\\#0) (?0)");
-    // x\ (x\ x) , x: the outer one is back behind the inner one
+    // x\ (x\ x) , f x: the outer one is back behind the inner one
     let term = bind(
         a,
         "x",
@@ -165,10 +165,10 @@ fn the_nearest_binder_decides(rt: HostRuntime) -> Result<(), AllocError> {
             a,
             Operator::Comma,
             bind(a, "x", name(a, "x")?)?,
-            name(a, "x")?,
+            one(a, name(a, "f")?, name(a, "x")?)?,
         )?,
     )?;
-    assert_eq!(rt; resolved(a, term)?.as_str(), "\\c3 (\\#0) (#0)");
+    assert_eq!(rt; resolved(a, term)?.as_str(), "\\c3 (\\#0) (c26 (#0))");
     // _\ _ binds nothing
     let term = bind(a, "_", hole(a)?)?;
     assert_eq!(rt; resolved(a, term)?.as_str(), "\\?0");
