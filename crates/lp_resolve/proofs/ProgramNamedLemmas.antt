@@ -1,5 +1,5 @@
 -- The symbols of what a program is read as are those of the table, where it has the program's texts.
-use Rattle.std.proofs.Common.{◌≡◌, ◌∙◌, ◌+◌, ◌≤◌, ◌<◌, ℕ, List, [], ◌∷◌, ◌++◌, Option, Some, None, IfSome, All, length, map, flat_map, ap, sym, refl, subst, arith}
+use Rattle.std.proofs.Common.{◌≡◌, ◌∙◌, ◌+◌, ◌≤◌, ◌<◌, ℕ, List, [], ◌∷◌, ◌++◌, Option, Some, None, IfSome, All, length, map, flat_map, ap, sym, refl, subst, arith, length-append}
 use Rattle.std.proofs.lemmas.List.{map-append}
 use Rattle.std.proofs.lemmas.List.Elements.{All-nil, All-cons, All-append, All-map, All-head, All-tail}
 use Rattle.lp_parser.specs.declared.ast.AstTerm.{AstTerm}
@@ -17,7 +17,7 @@ use Rattle.ref_terms.specs.terms.Term.{Term}
 use Rattle.ref_terms.specs.declared.sym.Sym.{Sym}
 use Rattle.ref_terms.specs.declared.tree.Tree.{Tree}
 use Rattle.ref_terms.specs.declared.tree.Tree.TheVariants.{Ap}
-use Rattle.lp_resolve.specs.Symbols.{number_of}
+use Rattle.lp_resolve.specs.Symbols.{number_of, reserved_names, Begins}
 use Rattle.lp_resolve.specs.Variables.{Met, nothing_met, met_word}
 use Rattle.lp_resolve.specs.Reading.{reading}
 use Rattle.lp_resolve.specs.Treed.{tree_of}
@@ -186,3 +186,9 @@ module _ (table : List (List ℕ)) (lt : 25 ≤ length table) where
       rules = all-items (IsRuleNamed (length table)) (item_rules table) item_rules-named items t;
       decls = all-items (λ d. d.name.0 < length table) (item_lines table) item_lines-named items t
     }
+
+-- a table with the reserved names has 25 at least
+pub reserved-long : (table : List (List ℕ)) → Begins reserved_names table → 25 ≤ length table
+reserved-long table b =
+    let long : length table ≡ 25 + length b.more = ap (λ (t : List (List ℕ)). length t) b.is ∙ length-append reserved_names b.more in
+    omega arith
