@@ -7,6 +7,7 @@ pub mod Contracting
 pub mod Counts
 pub mod FormedLemmas
 pub mod Levels
+pub mod NamedTerms
 pub mod Numbered
 pub mod OccurrenceLemmas
 pub mod PartLemmas
@@ -14,10 +15,12 @@ pub mod PlacesFacts
 pub mod Positions
 pub mod PredicateLemmas
 pub mod ProgramLemmas
+pub mod ProgramNamedLemmas
 pub mod PutLemmas
 pub mod QueryFacts
 pub mod ReadingFacts
 pub mod ReadingForms
+pub mod ReadingNamed
 pub mod ReadingSteps
 pub mod ReadsAsLemmas
 pub mod Replacing

@@ -1,5 +1,6 @@
 -- A reading meets as many words of variables as its tree has variables at their places.
 use Rattle.std.proofs.Common.{◌≡◌, ◌∙◌, ◌+◌, ℕ, Option, ap, sym, refl, List, [], ◌∷◌, map, length, sum_by, arith}
+use Rattle.std.proofs.lemmas.List.Sums.{sum_by-cons}
 use Rattle.lp_parser.specs.declared.ast.AstTerm.{AstTerm}
 use Rattle.ref_terms.specs.terms.Term as term
 use Rattle.ref_terms.specs.terms.Term.{Term}
@@ -15,7 +16,6 @@ use Rattle.lp_resolve.specs.Occurrences.{Walked, Front, variable, bound_name, st
 use Rattle.lp_resolve.proofs.Counts.{count, count_head}
 use Rattle.lp_resolve.proofs.OccurrenceLemmas.{length-occurrences-ap}
 use Rattle.lp_resolve.proofs.ReadingFacts.{reads-well}
-
 
 -- an abstraction
 walked-lam : (body : Tree) → walked (Lam body) ≡ walked_at (Tree-F.Lam (walked body))
@@ -46,7 +46,12 @@ length-lam body = ap (λ w. length w.places) (walked-lam body)
 
 -- how many places the tree of a term has, before these arguments
 length-before : (t : Term) (args : List Tree) → length (occurrences (tree_before args t)) ≡ count t + sum_by (λ a. length (occurrences a)) args
-length-before (term.App f a) args = omega (arith, length-before f (tree_before [] a ∷ args), length-before a [])
+length-before (term.App f a) args =
+    let rest = sum_by-cons (λ x. length (occurrences x)) (tree_before [] a) args in
+    let whole : length (occurrences (tree_before args (term.App f a))) ≡ count f + (length (occurrences (tree_before [] a)) + sum_by (λ x. length (occurrences x)) args) =
+    length-before f (tree_before [] a ∷ args) ∙ ap (λ n. count f + n) rest in
+    let inner : length (occurrences (tree_before [] a)) ≡ count a + 0 = length-before a [] in
+    omega arith
 length-before (term.At h) args =
     length-occurrences-ap (head_of h) args ∙ ap (λ n. n + sum_by (λ a. length (occurrences a)) args) (length-front h (map (λ a. a.name) (map walked args)))
 length-before (term.Lam b) [] = length-lam (tree_before [] b) ∙ length-before b []

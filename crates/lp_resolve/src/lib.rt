@@ -36,3 +36,8 @@ pub use static_rule::StaticRule;
 pub use symbols::Symbols;
 pub use trees::{arity_of, constant_of};
 pub use variable::Variable;
+
+#[cfg(test)]
+mod program_tests;
+#[cfg(test)]
+mod query_tests;
