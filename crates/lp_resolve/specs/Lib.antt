@@ -1,10 +1,13 @@
 pub mod Build
 pub mod Gathered
 pub mod Heads
+pub mod Laws
+pub mod Named
 pub mod Occurrences
 pub mod Places
 pub mod Plain
 pub mod Preds
+pub mod ProgramNamed
 pub mod ProgramReading
 pub mod ProgramTexts
 pub mod Queries
