@@ -14,6 +14,4 @@ pub mod Outcomes
 pub mod Answers
 pub mod Items
 pub mod Readings
-pub mod TestEnds
 pub mod Loops
-pub mod TestEnds

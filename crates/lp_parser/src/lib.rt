@@ -12,6 +12,7 @@ mod lexeme;
 mod nesting;
 mod parse;
 mod program;
+mod reader;
 mod refusal;
 mod rule_steps;
 mod stack;

@@ -1,6 +1,10 @@
 //! Trees and refusals of texts, worked by hand.
 use crate::ast::{AstTerm, AstType, Decl, Item, Operator, Place, RuleHead, Word, WordKind};
 use crate::error::{GrammarRule, ParseError};
+use crate::laws::{
+    one_program, one_query, program_deep, program_read, program_unexpected, query_deep, query_read,
+    query_unexpected,
+};
 use crate::parse::{parse_program, parse_query};
 use crate::program::Ast;
 use lam_io::ByteText;
@@ -646,4 +650,16 @@ fn first_place(ast: &Ast) -> Option<Place> {
         [Item::Clause(clause), ..] => Some(clause.place),
         _ => None,
     }
+}
+
+#[test]
+fn laws_are_called() {
+    one_program();
+    one_query();
+    program_read();
+    query_read();
+    program_unexpected();
+    query_unexpected();
+    program_deep();
+    query_deep();
 }
