@@ -9,7 +9,8 @@ use Rattle.lp_resolve.specs.Trees.{IsFormed}
 use Rattle.lp_resolve.specs.Occurrences.{occurrences}
 use Rattle.lp_resolve.specs.WellFormed.{IsClauseFormed}
 use Rattle.lp_resolve.specs.ProgramReading.{head_and_body, read_tree, clause_with, clause_of}
-use Rattle.lp_resolve.proofs.ReadingFacts.{reading-formed, reading-places}
+use Rattle.lp_resolve.proofs.ReadingFacts.{reading-formed}
+use Rattle.lp_resolve.proofs.PlacesFacts.{reading-places}
 use Rattle.lp_resolve.proofs.FormedLemmas.{is_parted, formed-parted, places-parted}
 
 -- a clause whose tree and variables were read is the clause of the text

@@ -20,7 +20,8 @@ use Rattle.lp_resolve.specs.Occurrences.{occurrences}
 use Rattle.lp_resolve.specs.ProgramReading.{Read, read_all, read_option, read_variable, read_tree, read_head, read_pair, read_parts, rule_with, rule_of}
 use Rattle.lp_resolve.specs.WellFormed.{IsHeadFormed, IsPairFormed, IsFormedOver, IsRuleFormed}
 use Rattle.lp_resolve.proofs.FormedLemmas.{formed-more}
-use Rattle.lp_resolve.proofs.ReadingFacts.{reading-formed, reading-grows, reading-places}
+use Rattle.lp_resolve.proofs.ReadingFacts.{reading-formed, reading-grows}
+use Rattle.lp_resolve.proofs.PlacesFacts.{reading-places}
 
 -- a way to read, whose values hold of the variables that were met, and of more
 pub record IsSound {A B : Type 0} (read : Met → A → Read B) (P : ℕ → B → Type 0) : Type 0 where

@@ -98,7 +98,7 @@ within-step n m true any some rest = omega arith
 within-step n m false any some rest = omega (arith, rest some)
 
 -- the first place of something that is there
-place-within : {A : Type 0} (p : A → Bool) (xs : List A) → list_any p xs ≡ true → position_or_len p xs < length xs
+pub place-within : {A : Type 0} (p : A → Bool) (xs : List A) → list_any p xs ≡ true → position_or_len p xs < length xs
 place-within p [] some = absurd (let bad = some in cc)
 place-within p (x ∷ xs) some = within-step (position_or_len p xs) (length xs) (p x) (list_any p xs) some (place-within p xs)
 

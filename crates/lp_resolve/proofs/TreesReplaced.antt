@@ -50,3 +50,13 @@ replaced-ap p tree head args h rest is eh es =
 pub replaced-headless : (p : ℕ → Option ℕ) (tree : Tree) (head : Head) (args : List Tree) → tree ≡ Ap head args → None ≡ partial p (head_term head) → None ≡ partial p (as_term tree)
 replaced-headless p tree head args is none =
     ap (λ o. with_all o (all_terms (map (partial p) (map as_term args)))) none ∙ sym (partial-arguments p (head_term head) (map as_term args)) ∙ sym (ap (partial p) (ap as_term is ∙ term-ap head args))
+
+-- a head with its arguments, as terms
+pub replaced-terms : (p : ℕ → Option ℕ) (head : Head) (args : List Tree) (h : Option Head) (rest : Option (List Tree))
+    → option_map head_term h ≡ partial p (head_term head) → option_map (map as_term) rest ≡ all_terms (map (λ t. partial p (as_term t)) args)
+    → option_map as_term (ap_tree h rest) ≡ partial p (with_arguments (head_term head) (map as_term args))
+replaced-terms p head args h rest eh es = replaced-ap p (Ap head args) head args h rest refl eh es ∙ ap (partial p) (term-ap head args)
+
+-- no head, no term
+pub headless-terms : (p : ℕ → Option ℕ) (head : Head) (args : List Tree) → None ≡ partial p (head_term head) → None ≡ partial p (with_arguments (head_term head) (map as_term args))
+headless-terms p head args none = replaced-headless p (Ap head args) head args refl none ∙ ap (partial p) (term-ap head args)

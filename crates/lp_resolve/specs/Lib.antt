@@ -1,6 +1,8 @@
 pub mod Build
 pub mod Gathered
 pub mod Heads
+pub mod Laws
+pub mod Named
 pub mod Occurrences
 pub mod Places
 pub mod Plain

@@ -5,15 +5,11 @@ use Rattle.lp_parser.specs.declared.ast.AstGoal.{AstGoal}
 use Rattle.lp_resolve.specs.declared.query.Query.{Query}
 use Rattle.lp_resolve.specs.declared.query.QueryVar.{QueryVar}
 use Rattle.lp_resolve.specs.declared.variable.Variable.{Variable}
-use Rattle.lp_resolve.specs.Variables.{Met, nothing_met}
+use Rattle.lp_resolve.specs.Symbols.{begins_low}
+use Rattle.lp_resolve.specs.Variables.{nothing_met}
 use Rattle.lp_resolve.specs.Reading.{Reading, reading}
 use Rattle.lp_resolve.specs.Treed.{tree_of}
 use Rattle.lp_resolve.specs.Trees.{IsFormed}
-
--- whether a text begins with `_`
-abbrev pub begins_low : List ℕ → Bool
-begins_low [] = false
-begins_low (byte ∷ text) = nat_eq byte 95
 
 -- a variable of a query, which is shown where its word doesn't begin with `_`
 abbrev pub query_var : (table : List (List ℕ)) → Variable → QueryVar

@@ -1,5 +1,5 @@
 -- The table of symbols: a list of texts, each at its number.
-use Rattle.std.specs.Prelude.{◌≡◌, ℕ, List, [], ◌∷◌, ◌++◌, if◌then◌else◌, codes, fold}
+use Rattle.std.specs.Prelude.{◌≡◌, ℕ, Bool, false, nat_eq, List, [], ◌∷◌, ◌++◌, if◌then◌else◌, codes, fold}
 use Rattle.std.specs.List.{list_any, position_or_len}
 use Rattle.std.specs.Str.{bytes_eq}
 
@@ -20,6 +20,11 @@ interned table text = if list_any (bytes_eq text) table then table else table ++
 -- the table with each of these texts in turn
 abbrev pub interned_all : (table : List (List ℕ)) → (texts : List (List ℕ)) → List (List ℕ)
 interned_all table texts = fold interned table texts
+
+-- whether a text begins with `_`
+abbrev pub begins_low : List ℕ → Bool
+begins_low [] = false
+begins_low (byte ∷ text) = nat_eq byte 95
 
 -- a list begins with another one
 pub record Begins {A : Type 0} (front whole : List A) : Type 0 where

@@ -46,6 +46,10 @@ abbrev pub are_none : List Shape → Bool
 are_none [] = true
 are_none (shape ∷ shapes) = false
 
+-- all of them fit
+abbrev pub all_fit : List Shape → Bool
+all_fit shapes = list_all (λ a. a.fits) shapes
+
 -- the shape of a head, that of the abstraction in it already known
 abbrev pub head_shape_at : Head-F Shape Shape → Shape
 head_shape_at (Head-F.Stuck body) = record { abstraction = true; fits = body.abstraction && body.fits }
@@ -59,7 +63,7 @@ head_shape_at (Head-F.ClauseVar i) = record { abstraction = false; fits = true }
 abbrev pub shape_at : Tree-F Shape Shape → Shape
 shape_at (Tree-F.Lam body) = record { abstraction = true; fits = body.fits }
 shape_at (Tree-F.Ap head arguments) =
-    record { abstraction = false; fits = head.fits && not (head.abstraction && are_none arguments) && list_all (λ a. a.fits) arguments }
+    record { abstraction = false; fits = head.fits && not (head.abstraction && are_none arguments) && all_fit arguments }
 
 -- the shape of a tree
 abbrev pub shape : Tree → Shape

@@ -1,13 +1,13 @@
 //! Application and abstraction of trees.
 ghost use Rattle.std.specs.Prelude.{◌≡◌, ◌++◌, ◌∷◌, [], None, Some, IfOk, IfSome, IsTrue, map};
 ghost use Rattle.std.specs.Option.{option_map};
-ghost use Rattle.std.specs.List.{list_all};
 ghost use Rattle.ref_terms.specs.terms.Apply.{apply};
-ghost use Rattle.ref_terms.specs.terms.Eta.{partial, eta, lam};
+ghost use Rattle.ref_terms.specs.unification.Spine.{apply_all};
+ghost use Rattle.ref_terms.specs.terms.Eta.{partial, lower, eta, lam};
 ghost use Rattle.ref_terms.specs.terms.Index.{sub, first};
 ghost use Rattle.ref_terms.specs.terms.Term as term;
 ghost use Rattle.lp_resolve.specs.Replacing.{replacing};
-ghost use Rattle.lp_resolve.specs.Trees.{as_term, head_term, with_arguments, shape, head_shape};
+ghost use Rattle.lp_resolve.specs.Trees.{as_term, head_term, with_arguments, shape, head_shape, all_fit};
 ghost use Rattle.lp_resolve.specs.Build.{bound_index, all_terms};
 
 use ref_terms::{Args, Head, Sequence, Tree};
@@ -154,7 +154,7 @@ fn bound_name(tree: &Tree) -> Option<usize>
 // The head with these arguments; a stuck abstraction without arguments is the abstraction.
 fn with_arguments(head: Head, arguments: Args) -> Tree
     requires fits { IsTrue (head_shape head).fits }
-    requires arguments { IsTrue (list_all (λ argument. (shape argument).fits) arguments) }
+    requires arguments { IsTrue (all_fit (map shape arguments)) }
     ensures term { as_term result ≡ with_arguments (head_term head) (map as_term arguments) }
     ensures fits { IsTrue (shape result).fits }
 {
@@ -171,27 +171,59 @@ fn with_arguments(head: Head, arguments: Args) -> Tree
     }
 }
 
+// The head with these arguments, with each bound name's index one lower; none, where the innermost stands in it.
+fn lowered(alloc: Global, head: &Head, arguments: &[Tree]) -> Result<Option<Tree>, AllocError>
+    requires head { IsTrue (head_shape head.now).fits }
+    requires arguments { IsTrue (all_fit (map shape arguments.now)) }
+    ensures term { IfOk result (λ answer. option_map as_term answer ≡ lower (with_arguments (head_term head.now) (map as_term arguments.now))) }
+    ensures fits { IfOk result (λ answer. IfSome answer (λ tree. IsTrue (shape tree).fits)) }
+{
+    let Some(head) = replaced_head(alloc, head, 0, None)? else {
+        return Ok(None);
+    };
+    match replaced_all(alloc, arguments, 0, None)? {
+        Some(arguments) => Ok(Some(with_arguments(head, arguments))),
+        None => Ok(None),
+    }
+}
+
+// The head with these arguments, where one more is the innermost bound name, which stands nowhere else.
+fn contracted_before(
+    alloc: Global,
+    head: &Head,
+    arguments: &[Tree],
+    last: &Tree,
+) -> Result<Option<Tree>, AllocError>
+    requires head { IsTrue (head_shape head.now).fits }
+    requires arguments { IsTrue (all_fit (map shape arguments.now)) }
+    requires last { IsTrue (shape last.now).fits }
+    ensures term { IfOk result (λ answer. option_map as_term answer ≡ eta (term.App (with_arguments (head_term head.now) (map as_term arguments.now)) (as_term last.now))) }
+    ensures fits { IfOk result (λ answer. IfSome answer (λ tree. IsTrue (shape tree).fits)) }
+{
+    match bound_name(last) {
+        Some(index) => {
+            if index == 0 {
+                lowered(alloc, head, arguments)
+            } else {
+                Ok(None)
+            }
+        }
+        None => Ok(None),
+    }
+}
+
 // The tree t, where the body is t applied to the innermost bound name, which doesn't stand in t.
 fn contracted(alloc: Global, body: &Tree) -> Result<Option<Tree>, AllocError>
     requires fits { IsTrue (shape body.now).fits }
     ensures term { IfOk result (λ answer. option_map as_term answer ≡ eta (as_term body.now)) }
     ensures fits { IfOk result (λ answer. IfSome answer (λ tree. IsTrue (shape tree).fits)) }
 {
-    let Tree::Ap(head, arguments) = body else {
-        return Ok(None);
-    };
-    let Some((last, front)) = arguments.as_slice().split_last() else {
-        return Ok(None);
-    };
-    if bound_name(last) != Some(0) {
-        return Ok(None);
-    }
-    let Some(head) = replaced_head(alloc, head, 0, None)? else {
-        return Ok(None);
-    };
-    match replaced_all(alloc, front, 0, None)? {
-        Some(arguments) => Ok(Some(with_arguments(head, arguments))),
-        None => Ok(None),
+    match body {
+        Tree::Lam(_) => Ok(None),
+        Tree::Ap(head, arguments) => match arguments.as_slice().split_last() {
+            Some((last, front)) => contracted_before(alloc, head, front, last),
+            None => Ok(None),
+        },
     }
 }
 
@@ -220,10 +252,8 @@ fn opened(alloc: Global, body: &Tree, index: usize) -> Result<Tree, AllocError>
     }
 }
 
-/// The tree applied to an argument.
-///
-/// Errors: want of memory.
-pub(crate) fn applied(alloc: Global, tree: Tree, argument: Tree) -> Result<Tree, AllocError>
+// The tree applied to an argument.
+fn applied(alloc: Global, tree: Tree, argument: Tree) -> Result<Tree, AllocError>
     requires tree { IsTrue (shape tree).fits }
     requires argument { IsTrue (shape argument).fits }
     ensures term { IfOk result (λ new. as_term new ≡ apply (as_term tree) (as_term argument)) }
@@ -252,4 +282,26 @@ fn stuck(alloc: Global, body: Boxed<Tree>, argument: Tree) -> Result<Tree, Alloc
     arguments.push(argument)?;
     let abstraction = Boxed::new(alloc, Tree::Lam(body))?;
     Ok(Tree::Ap(Head::Stuck(abstraction), arguments))
+}
+
+/// The tree applied to these arguments, from the left.
+///
+/// Errors: want of memory.
+pub(crate) fn applied_all(
+    alloc: Global,
+    function: Tree,
+    arguments: Args,
+) -> Result<Tree, AllocError>
+    requires function { IsTrue (shape function).fits }
+    requires arguments { IsTrue (all_fit (map shape arguments)) }
+    ensures term { IfOk result (λ tree. as_term tree ≡ apply_all (as_term function) (map as_term arguments)) }
+    ensures fits { IfOk result (λ tree. IsTrue (shape tree).fits) }
+{
+    let mut rest = arguments.into_vec();
+    rest.reverse();
+    let mut tree = function;
+    while let Some(argument) = rest.pop() {
+        tree = applied(alloc, tree, argument)?;
+    }
+    Ok(tree)
 }

@@ -6,6 +6,7 @@ mod checked;
 mod clauses;
 mod gather;
 mod items;
+mod laws;
 mod occurrences;
 mod parts;
 mod placed;
@@ -23,14 +24,20 @@ mod variable;
 mod variables;
 
 pub use checked::Checked;
+pub use laws::{law_first_breach, law_predicates};
 pub use preds::Preds;
 pub use program::{
     ClausePlaces, ClauseTree, HeadTree, PairTree, Pred, PredLine, Program, RulePlaces, RuleTree,
 };
 pub use query::{Query, QueryVar, QueryVars};
-pub use resolve::resolve_program;
 pub use read::resolve_query;
+pub use resolve::resolve_program;
 pub use static_rule::StaticRule;
 pub use symbols::Symbols;
 pub use trees::{arity_of, constant_of};
 pub use variable::Variable;
+
+#[cfg(test)]
+mod program_tests;
+#[cfg(test)]
+mod query_tests;

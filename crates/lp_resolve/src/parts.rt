@@ -23,7 +23,8 @@ pub(crate) fn read_part(
     ensures table { OnOk result (symbols.new ≡ interned_all symbols.old (texts_of term.now)) }
     ensures read { IfOk result (λ tree. ReadsAs read_tree symbols.new variables.old term.now tree variables.new) }
 {
-    read_term(alloc, term, symbols, variables)
+    let tree = read_term(alloc, term, symbols, variables)?;
+    Ok(tree)
 }
 
 /// The number of a variable that stands outside a term, over this table and each later one.
@@ -36,5 +37,6 @@ pub(crate) fn read_word(
     ensures table { OnOk result (symbols.new ≡ interned_all symbols.old (word.now.text ∷ [])) }
     ensures read { IfOk result (λ number. ReadsAs read_variable symbols.new variables.old word.now number variables.new) }
 {
-    read_variable(word, symbols, variables)
+    let number = read_variable(word, symbols, variables)?;
+    Ok(number)
 }

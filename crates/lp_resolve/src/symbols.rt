@@ -1,6 +1,6 @@
 //! The table of symbols.
 ghost use Rattle.std.specs.Prelude.{◌≡◌, ◌<◌, [], length, map, slice_index_or, IfOk, OnOk, OnErr};
-ghost use Rattle.lp_resolve.specs.Symbols.{reserved_names, number_of, interned, interned_all, Begins};
+ghost use Rattle.lp_resolve.specs.Symbols.{reserved_names, number_of, interned, interned_all, begins_low, Begins};
 
 use indexmap::IndexSet;
 use ref_terms::Sym;
@@ -47,7 +47,36 @@ impl Model for Symbols {
 
     ghost Value = { List (List ℕ) };
 
+    ghost use Rattle.lp_resolve.specs.Symbols.{reserved_names, Begins};
+
     ghost view = { λ symbols. map (λ text. text.items) symbols.texts.keys };
+
+    ghost invariant = { λ symbols. Begins reserved_names (map (λ text. text.items) symbols.texts.keys) };
+}
+
+// Puts a text last where it is new, and answers its number.
+fn put(texts: &mut IndexSet<Vec<u8>>, text: &[u8]) -> Result<usize, AllocError>
+    ensures interned { OnOk result (map (λ text. text.items) texts.new.keys ≡ interned (map (λ text. text.items) texts.old.keys) text.now) }
+    ensures number { IfOk result (λ number. number ≡ number_of (map (λ text. text.items) texts.new.keys) text.now) }
+    ensures unchanged { OnErr result (map (λ text. text.items) texts.new.keys ≡ map (λ text. text.items) texts.old.keys) }
+{
+    if let Some(number) = texts.get_index_of(text) {
+        return Ok(number);
+    }
+    let number = texts.len();
+    let text = Vec::from_slice(*texts.allocator(), text)?;
+    texts.insert(text)?;
+    Ok(number)
+}
+
+// Puts these texts last, each where it is new.
+fn put_all(texts: &mut IndexSet<Vec<u8>>, names: &[&str]) -> Result<(), AllocError>
+    ensures { OnOk result (map (λ text. text.items) texts.new.keys ≡ interned_all (map (λ text. text.items) texts.old.keys) (map (λ name. name.now) names.now)) }
+{
+    for name in names {
+        put(texts, name.as_bytes())?;
+    }
+    Ok(())
 }
 
 impl Symbols {
@@ -57,21 +86,9 @@ impl Symbols {
     pub fn new(alloc: Global) -> Result<Symbols, AllocError>
         ensures { IfOk result (λ symbols. symbols ≡ reserved_names) }
     {
-        let mut symbols = Symbols {
-            texts: IndexSet::new(alloc),
-        };
-        symbols.intern_all(&FIRST_NAMES)?;
-        Ok(symbols)
-    }
-
-    // Puts these texts last, each where it is new.
-    fn intern_all(&mut self, texts: &[&str]) -> Result<(), AllocError>
-        ensures { OnOk result (self.new ≡ interned_all self.old (map (λ text. text.now) texts.now)) }
-    {
-        for text in texts {
-            self.intern(text.as_bytes())?;
-        }
-        Ok(())
+        let mut texts = IndexSet::new(alloc);
+        put_all(&mut texts, &FIRST_NAMES)?;
+        Ok(Symbols { texts })
     }
 
     /// The number of a text, which goes last where it is new. So equal texts have one number, and the
@@ -85,13 +102,15 @@ impl Symbols {
         ensures begins { Begins self.old self.new }
         ensures unchanged { OnErr result (self.new ≡ self.old) }
     {
-        if let Some(number) = self.texts.get_index_of(text) {
-            return Ok(Sym(number));
-        }
-        let number = self.texts.len();
-        let text = Vec::from_slice(*self.texts.allocator(), text)?;
-        self.texts.insert(text)?;
+        let number = put(&mut self.texts, text)?;
         Ok(Sym(number))
+    }
+
+    /// What holds of every table. Does nothing.
+    pub fn begins_reserved(&self)
+        ensures { Begins reserved_names self.now }
+    {
+        let _ = &self.texts;
     }
 
     /// The text of a symbol of this table. Takes no memory.
@@ -102,6 +121,19 @@ impl Symbols {
         match self.texts.get_index(symbol.0) {
             Some(text) => text.as_slice(),
             None => &[],
+        }
+    }
+
+    // Whether the text of a symbol begins with `_`.
+    pub(crate) fn begins_low(&self, symbol: Sym) -> bool
+        ensures { result ≡ begins_low (slice_index_or self.now symbol.0 []) }
+    {
+        match self.texts.get_index(symbol.0) {
+            Some(text) => match text.as_slice().first() {
+                Some(byte) => *byte == b'_',
+                None => false,
+            },
+            None => false,
         }
     }
 
