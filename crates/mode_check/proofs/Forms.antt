@@ -1,5 +1,5 @@
 -- What is known of trees and heads, form by form.
-use Rattle.std.proofs.Common.{◌≡◌, ◌∙◌, ℕ, ℤ, Bool, append_assoc, List, [], ◌∷◌, ◌++◌, Option, Some, None, Result, Ok, Err, OnOk, map, flat_map, ap, sym, refl}
+use Rattle.std.proofs.Common.{◌≡◌, ◌∙◌, ℕ, ℤ, Bool, append_assoc, List, [], ◌∷◌, ◌++◌, Option, None, Result, Ok, Err, OnOk, map, flat_map, ap, sym, refl}
 use Rattle.std.proofs.lemmas.List.{map-append}
 use Rattle.ref_terms.specs.declared.sym.Sym.{Sym}
 use Rattle.ref_terms.specs.declared.tree.Tree.{Tree, fold-roll-Tree}

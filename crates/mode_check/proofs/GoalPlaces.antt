@@ -1,5 +1,5 @@
 -- The goals of a rule's heads, by their places.
-use Rattle.std.proofs.Common.{◌≡◌, ◌∙◌, ℕ, ◌-◌, ◌<◌, ◌≤◌, List, ◌++◌, Some, length, map, get_or, slice_get, option_map, sym, ap, refl, arith}
+use Rattle.std.proofs.Common.{◌≡◌, ◌∙◌, ℕ, ◌-◌, ◌<◌, ◌≤◌, List, Some, length, get_or, slice_get, option_map, sym, ap, arith}
 use Rattle.std.proofs.lemmas.Option.{slice_get-map, slice_get-get_or}
 use Rattle.std.proofs.lemmas.List.{length-map, get_or-append_right}
 use Rattle.lp_resolve.specs.declared.program.HeadTree.{HeadTree}

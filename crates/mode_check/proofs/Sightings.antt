@@ -1,5 +1,5 @@
 -- Names that are declared, and variables that stand as whole arguments, as they come one by one.
-use Rattle.std.proofs.Common.{◌≡◌, ◌∙◌, ℕ, ◌+◌, ◌<◌, suc, zero, Bool, true, false, ◌||◌, not, cond, nat_eq, nat_lt, List, [], ◌∷◌, ◌++◌, length, get_or, take, drop, map, position, Option, Some, None, option_map, sym, ap, refl, arith}
+use Rattle.std.proofs.Common.{◌≡◌, ◌∙◌, ℕ, ◌+◌, ◌<◌, suc, Bool, true, false, ◌||◌, not, nat_eq, nat_lt, List, [], ◌∷◌, ◌++◌, length, get_or, take, drop, position, Option, Some, None, option_map, sym, ap, refl, arith}
 use Rattle.std.specs.List.{list_any, position_or_len}
 use Rattle.std.specs.Prelude.{if◌then◌else◌}
 use Rattle.std.specs.Option.{option_map_or}
@@ -12,7 +12,7 @@ use Rattle.lp_parser.specs.declared.ast.Place.{Place}
 use Rattle.ref_terms.specs.declared.tree.Tree.{Tree}
 use Rattle.lp_resolve.specs.declared.program.PredLine.{PredLine}
 use Rattle.lp_resolve.specs.declared.static_rule.StaticRule.TheVariants.{S1}
-use Rattle.lp_resolve.specs.Heads.{args_of, variable_of}
+use Rattle.lp_resolve.specs.Heads.{variable_of}
 use Rattle.lp_resolve.specs.StaticRules.{Breach, is_declared, redeclared, breaches_at, earlier, first_of, has_whole, head_with}
 use Rattle.mode_check.specs.Sides.{unless_seen}
 use Rattle.mode_check.proofs.Firsts.{earlier-assoc, first_of-append}

@@ -13,13 +13,26 @@ use lp_resolve::{PairTree, RuleTree, StaticRule, arity_of, constant_of};
 use ref_terms::{Sym, Tree};
 use std::alloc::{AllocError, Global};
 
+// The words of the tests, by their numbers.
+const SAME: usize = 10;
+
+const VAR: usize = 11;
+
+const NAME: usize = 12;
+
+const LESS: usize = 14;
+
+const NONVAR: usize = 23;
+
+const DISTINCT: usize = 24;
+
 // How many arguments a test has, where a symbol is one.
 fn test_arity(symbol: Sym) -> Option<usize>
     ensures { result ≡ test_arity symbol.0 }
 {
     match symbol.0 {
-        11 | 12 | 23 => Some(1),
-        10 | 14 | 24 => Some(2),
+        VAR | NONVAR | NAME => Some(1),
+        SAME | DISTINCT | LESS => Some(2),
         _ => None,
     }
 }

@@ -1,4 +1,4 @@
-use Rattle.std.proofs.Common.{◌≡◌, ◌∙◌, [], map, flat_map, List, Option, ap}
+use Rattle.std.proofs.Common.{◌≡◌, ◌∙◌, [], flat_map, List, Option, ap}
 use Rattle.lp_resolve.specs.declared.program.PredLine.{PredLine}
 use Rattle.lp_resolve.specs.declared.program.ClauseTree.{ClauseTree}
 use Rattle.lp_resolve.specs.declared.program.RuleTree.{RuleTree}

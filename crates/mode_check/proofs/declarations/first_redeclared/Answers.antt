@@ -1,6 +1,4 @@
-use Rattle.std.proofs.Common.{◌≡◌, ◌∙◌, ℕ, take, drop, nat_eq, ◌||◌, not, [], ◌∷◌, if◌then◌else◌, sym, ap}
-use Rattle.lp_resolve.specs.StaticRules.{is_declared, redeclared, breaches_at, earlier, first_of}
-use Rattle.lp_resolve.specs.declared.static_rule.StaticRule.TheVariants.{S1}
+use Rattle.std.proofs.Common.{◌∙◌}
 use Rattle.mode_check.proofs.Sightings.{names-more, found-more}
 use Rattle.mode_check.proofs.declarations.first_redeclared.Goals as goal
 

@@ -1,7 +1,7 @@
-use Rattle.std.proofs.Common.{◌≡◌, ◌∙◌, Bool, [], ◌∷◌, if◌then◌else◌, List, Option, ap}
+use Rattle.std.proofs.Common.{◌∙◌, Bool, [], ◌∷◌, if◌then◌else◌, ap}
 use Rattle.lp_resolve.specs.declared.static_rule.StaticRule.{StaticRule}
 use Rattle.lp_resolve.specs.declared.static_rule.StaticRule.TheVariants.{S2, S3, S4, S5}
-use Rattle.lp_resolve.specs.StaticRules.{Breach, lacks_constant, has_other_arity, has_reserved_head, unusable_variables, breaches_at, earlier, first_of}
+use Rattle.lp_resolve.specs.StaticRules.{lacks_constant, has_other_arity, has_reserved_head, unusable_variables, breaches_at, first_of}
 use Rattle.mode_check.proofs.Firsts.{four-firsts}
 use Rattle.mode_check.proofs.heads.first_in_head.Goals as goal
 

@@ -1,4 +1,4 @@
-use Rattle.std.proofs.Common.{◌≡◌, ◌∙◌, ◌<◌, ◌≤◌, min, length, ap, arith}
+use Rattle.std.proofs.Common.{◌∙◌, ◌<◌, ◌≤◌, length, ap, arith}
 use Rattle.lp_resolve.specs.StaticRules.{rule_heads}
 use Rattle.mode_check.proofs.HeadBreaches.{heads-next, heads-all, length-rule_heads}
 use Rattle.mode_check.proofs.heads.first_in_heads.Goals as goal

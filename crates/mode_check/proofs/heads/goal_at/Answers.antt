@@ -1,4 +1,3 @@
-use Rattle.std.proofs.Common.{arith}
 use Rattle.mode_check.proofs.GoalPlaces.{goal-removed}
 use Rattle.mode_check.proofs.heads.goal_at.Goals as goal
 

@@ -1,4 +1,4 @@
-use Rattle.std.proofs.Common.{◌≡◌, ◌∙◌, sym, ap}
+use Rattle.std.proofs.Common.{◌∙◌, sym, ap}
 use Rattle.mode_check.proofs.Spines.{spine-taken, spine-new, free-nil, are_free}
 use Rattle.mode_check.proofs.Forms.{names_of}
 use Rattle.std.proofs.lemmas.List.{drop_all}

@@ -1,4 +1,4 @@
-use Rattle.std.proofs.Common.{◌≡◌, ◌∙◌, not, [], ◌∷◌, if◌then◌else◌, zip, ap}
+use Rattle.std.proofs.Common.{◌∙◌, not, [], ◌∷◌, if◌then◌else◌, zip, ap}
 use Rattle.lp_resolve.specs.StaticRules.{goals_of, has_many_heads, is_unaligned, is_test, where_true, breaches_at, earlier, first_of}
 use Rattle.lp_resolve.specs.declared.static_rule.StaticRule.TheVariants.{S6, S7, S8}
 use Rattle.mode_check.proofs.Firsts.{first-three}

@@ -1,5 +1,4 @@
-use Rattle.std.proofs.Common.{◌≡◌, ◌∙◌, ◌<◌, ◌≤◌, min, length, zip, get_or, not, sym, ap, arith}
-use Rattle.std.proofs.lemmas.List.{get_or_default}
+use Rattle.std.proofs.Common.{◌∙◌, ◌<◌, length, zip, ap, arith}
 use Rattle.lp_resolve.specs.StaticRules.{goals_of, is_unaligned, where_true, breaches_at, first_of}
 use Rattle.lp_resolve.specs.declared.static_rule.StaticRule.TheVariants.{S7}
 use Rattle.mode_check.proofs.Firsts.{marked-all}

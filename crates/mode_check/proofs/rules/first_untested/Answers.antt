@@ -1,4 +1,4 @@
-use Rattle.std.proofs.Common.{◌≡◌, ◌∙◌, ◌<◌, ◌≤◌, min, length, zip, not, sym, ap, arith}
+use Rattle.std.proofs.Common.{◌∙◌, ◌<◌, length, zip, not, ap, arith}
 use Rattle.lp_resolve.specs.StaticRules.{is_test, where_true, breaches_at, first_of}
 use Rattle.lp_resolve.specs.declared.static_rule.StaticRule.TheVariants.{S8}
 use Rattle.mode_check.proofs.Firsts.{marked-more, marked-all}

@@ -1,6 +1,4 @@
-use Rattle.std.proofs.Common.{◌≡◌, ◌∙◌, List, map, flat_map, ap}
-use Rattle.ref_terms.specs.declared.tree.Tree.{Tree}
-use Rattle.lp_resolve.specs.Occurrences.{Occurrence, head_walked, front_places, occurrences, are_distinct_names}
+use Rattle.lp_resolve.specs.Occurrences.{are_distinct_names}
 use Rattle.mode_check.proofs.Forms.{noted-ap, when-ok}
 use Rattle.mode_check.proofs.variables.+noted.Goals as goal
 

@@ -1,4 +1,4 @@
-use Rattle.std.proofs.Common.{◌≡◌, ◌∙◌, ◌<◌, ◌≤◌, min, length, get_or, false, not, refl, arith}
+use Rattle.std.proofs.Common.{◌∙◌, ◌<◌, length, get_or, false, not, refl, arith}
 use Rattle.std.proofs.lemmas.List.{get_or_default}
 use Rattle.lp_resolve.specs.declared.static_rule.StaticRule.TheVariants.{S4}
 use Rattle.mode_check.proofs.Firsts.{marked-more, marked-all}
