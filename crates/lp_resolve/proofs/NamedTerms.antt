@@ -54,6 +54,7 @@ named-apply n (Lam b) a wf wa = at (ready a) where
   opened : (i : ℕ) → IsNamed n (first a i)
   opened zero = wa
   opened (suc i) = tt
+
   at : (r : Bool) → IsNamed n (cond r (sub (first a) b) (App (Lam b) a))
   at true = named-sub n (first a) opened b wf
   at false = (wf, wa)
@@ -92,10 +93,12 @@ named-lam n b w = made (eta b) (contracted b w) where
   kept (At (Var v)) o k = tt
   kept (Lam c) o k = tt
   kept (App g a) o k = tt
+
   contracted : (t : Term) → IsNamed n t → IfSome (eta t) (IsNamed n)
   contracted (Lam c) v = tt
   contracted (At h) v = tt
   contracted (App f a) v = kept a (lower f) (named-partial n previous f v.0)
+
   made : (o : Option Term) → IfSome o (IsNamed n) → IsNamed n (lam_of o b)
   made None k = w
   made (Some t) k = k

@@ -183,7 +183,7 @@ made : (x : AstTerm-F AstTerm) → ((table : List (List ℕ)) → 25 ≤ length 
     → IsKnownTerm (roll-AstTerm x)
 made x h table lt are =
     subst (KeepsTo (length table)) (sym (fold-roll-AstTerm Reader (reading_at table) x))
-      (h table lt (subst (AreIn table) (fold-roll-AstTerm (List (List ℕ)) texts_at x) are))
+    (h table lt (subst (AreIn table) (fold-roll-AstTerm (List (List ℕ)) texts_at x) are))
 
 -- one layer of a term
 layer : (y : AstTerm-F ((t : AstTerm) × IsKnownTerm t)) → IsKnownTerm (roll-AstTerm (map-AstTerm ((t : AstTerm) × IsKnownTerm t) AstTerm (λ e. e.0) y))

@@ -11,11 +11,7 @@ use std::alloc::{AllocError, Global};
 const PLACE: Place = Place { file: 0, at: 0 };
 
 fn word(alloc: Global, kind: WordKind, text: &str) -> Result<AstTerm, AllocError> {
-    Ok(AstTerm::Word(
-        kind,
-        ByteText::from_slice(alloc, text.as_bytes())?,
-        PLACE,
-    ))
+    Ok(AstTerm::Word(kind, ByteText::from_slice(alloc, text.as_bytes())?, PLACE))
 }
 
 fn name(alloc: Global, text: &str) -> Result<AstTerm, AllocError> {
@@ -126,11 +122,7 @@ fn goals_are_resolved(rt: HostRuntime) -> Result<(), AllocError> {
     let term = bind(a, "x", one(a, name(a, "f")?, name(a, "x")?)?)?;
     assert_eq!(rt; resolved(a, term)?.as_str(), "c26");
     // x\ f x x stays
-    let term = bind(
-        a,
-        "x",
-        two(a, name(a, "f")?, name(a, "x")?, name(a, "x")?)?,
-    )?;
+    let term = bind(a, "x", two(a, name(a, "f")?, name(a, "x")?, name(a, "x")?)?)?;
     assert_eq!(rt; resolved(a, term)?.as_str(), "\\c26 (#0) (#0)");
     // (x\ x) a is stuck
     let term = one(a, bind(a, "x", name(a, "x")?)?, name(a, "a")?)?;
@@ -141,11 +133,7 @@ fn goals_are_resolved(rt: HostRuntime) -> Result<(), AllocError> {
         "y",
         one(
             a,
-            bind(
-                a,
-                "x",
-                two(a, name(a, "f")?, name(a, "x")?, name(a, "x")?)?,
-            )?,
+            bind(a, "x", two(a, name(a, "f")?, name(a, "x")?, name(a, "x")?)?)?,
             name(a, "y")?,
         )?,
     )?;
@@ -169,7 +157,7 @@ fn the_nearest_binder_decides(rt: HostRuntime) -> Result<(), AllocError> {
         variable(a, "X")?,
     )?;
     assert_eq!(rt; resolved(a, term)?.as_str(), "c3 (\\#0) (?0)");
-    // x\ (x\ x) , x: the outer one is back behind the inner one
+    // x\ (x\ x) , f x: the outer one is back behind the inner one
     let term = bind(
         a,
         "x",
@@ -177,10 +165,10 @@ fn the_nearest_binder_decides(rt: HostRuntime) -> Result<(), AllocError> {
             a,
             Operator::Comma,
             bind(a, "x", name(a, "x")?)?,
-            name(a, "x")?,
+            one(a, name(a, "f")?, name(a, "x")?)?,
         )?,
     )?;
-    assert_eq!(rt; resolved(a, term)?.as_str(), "\\c3 (\\#0) (#0)");
+    assert_eq!(rt; resolved(a, term)?.as_str(), "\\c3 (\\#0) (c26 (#0))");
     // _\ _ binds nothing
     let term = bind(a, "_", hole(a)?)?;
     assert_eq!(rt; resolved(a, term)?.as_str(), "\\?0");
@@ -199,7 +187,10 @@ fn lists_quantifiers_and_words_of_queries(rt: HostRuntime) -> Result<(), AllocEr
     let term = AstTerm::List(PLACE, AstTerms::new(a), None);
     assert_eq!(rt; resolved(a, term)?.as_str(), "c18");
     let body = Boxed::new(a, bind(a, "x", name(a, "x")?)?)?;
-    assert_eq!(rt; resolved(a, AstTerm::Quant(true, PLACE, body))?.as_str(), "c7 (\\#0)");
+    assert_eq!(rt;
+        resolved(a, AstTerm::Quant(true, PLACE, body))?.as_str(),
+        "c7 (\\#0)"
+    );
     // the variables of p X _Y _
     let mut symbols = Symbols::new(a)?;
     let term = two(

@@ -1,5 +1,5 @@
 //! Terms, from the parser's trees.
-ghost use Rattle.std.specs.Prelude.{◌≡◌, [], ◌∷◌, false, IfOk, OnOk, IsTrue, map, flat_map};
+ghost use Rattle.std.specs.Prelude.{◌≡◌, [], ◌∷◌, false, IfOk, OnOk, IsTrue, length, map, flat_map};
 ghost use Rattle.std.specs.Option.{option_map};
 ghost use Rattle.ref_terms.specs.terms.Term as term;
 ghost use Rattle.lp_resolve.specs.Symbols.{number_of, interned, interned_all, Begins};
@@ -9,6 +9,7 @@ ghost use Rattle.lp_resolve.specs.Variables.{number_in, met_word};
 ghost use Rattle.lp_resolve.specs.Reading.{Reading, reading, constant, word, application, reserved, operator_name, quantifier_name, list_term};
 ghost use Rattle.lp_resolve.specs.Reads.{IsReadBy, IsRead, AreRead};
 ghost use Rattle.lp_resolve.specs.Queries.{query_var, query_of, IsFormedQuery};
+ghost use Rattle.lp_resolve.specs.Named.{IsQueryNamed};
 
 use crate::build::{abstraction, applied_all};
 use crate::query::{Query, QueryVar, QueryVars};
@@ -272,7 +273,9 @@ pub fn resolve_query(
     ensures begins { Begins symbols.old symbols.new }
     ensures query { IfOk result (λ query. query ≡ query_of symbols.new goal.now) }
     ensures formed { IfOk result IsFormedQuery }
+    ensures named { IfOk result (IsQueryNamed (length symbols.new)) }
 {
+    symbols.begins_reserved();
     let mut variables = Variables::new(alloc);
     let tree = read_term(alloc, &goal.term, symbols, &mut variables)?;
     let vars = query_vars(alloc, variables.names(), symbols)?;
