@@ -2,8 +2,8 @@
 use crate::{Program, Symbols, resolve_program};
 use lam_io::ByteText;
 use lp_parser::{
-    Ast, AstArg, AstTerm, AstType, Block, Clause, Decl, Item, Operator, Place, Rule, RuleHead, Word,
-    WordKind, WordPair,
+    Ast, AstArg, AstTerm, AstType, Block, Clause, Decl, Item, Operator, Place, Rule, RuleHead,
+    Word, WordKind, WordPair,
 };
 use ref_terms::{Head, Sym, Tree};
 use sqlite_items::{Boxed, Items};
@@ -25,19 +25,11 @@ fn word(alloc: Global, name: &str, at: usize) -> Result<Word, AllocError> {
 }
 
 fn name(alloc: Global, word: &str, at: usize) -> Result<AstTerm, AllocError> {
-    Ok(AstTerm::Word(
-        WordKind::Name,
-        text(alloc, word)?,
-        Place { file: 1, at },
-    ))
+    Ok(AstTerm::Word(WordKind::Name, text(alloc, word)?, Place { file: 1, at }))
 }
 
 fn variable(alloc: Global, word: &str, at: usize) -> Result<AstTerm, AllocError> {
-    Ok(AstTerm::Word(
-        WordKind::Var,
-        text(alloc, word)?,
-        Place { file: 1, at },
-    ))
+    Ok(AstTerm::Word(WordKind::Var, text(alloc, word)?, Place { file: 1, at }))
 }
 
 fn applied(
