@@ -1,6 +1,6 @@
 //! Breaches of heads.
-ghost use Rattle.std.specs.Prelude.{◌≡◌, ◌<◌, length, map, flat_map, Some, slice_get, IfOk};
-ghost use Rattle.lp_resolve.specs.StaticRules.{PlacedHead, clause_head, rule_heads, goals_of, has_other_arity, has_reserved_head, lacks_constant, head_breaches, first_of};
+ghost use Rattle.std.specs.Prelude.{◌≡◌, ◌<◌, length, flat_map, Some, slice_get, IfOk};
+ghost use Rattle.lp_resolve.specs.StaticRules.{clause_head, rule_heads, goals_of, has_other_arity, has_reserved_head, lacks_constant, head_breaches, first_of};
 
 use crate::breach::{Breach, breach_if, earlier};
 use crate::declarations::is_reserved;
@@ -52,7 +52,7 @@ fn first_in_head(
 {
     let headless = breach_if(lacks_constant(tree), StaticRule::S2, place);
     let other = breach_if(has_other_arity(preds, tree), StaticRule::S3, place);
-    let unusable = first_unusable(alloc, tree, place, vars)?;
+    let unusable = first_unusable(alloc, tree, vars)?;
     let reserved = breach_if(has_reserved_head(tree), StaticRule::S5, place);
     let at_head = earlier(headless, other);
     Ok(earlier(earlier(at_head, unusable), reserved))

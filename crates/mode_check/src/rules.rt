@@ -1,8 +1,8 @@
 //! Breaches of rules, those of their heads aside.
-ghost use Rattle.std.specs.Prelude.{◌≡◌, ℕ, nat_eq, not, flat_map, Option, IfOk};
+ghost use Rattle.std.specs.Prelude.{◌≡◌, nat_eq, not, flat_map, IfOk};
 ghost use Rattle.std.specs.List.{zip};
 ghost use Rattle.indexmap.specs.IndexMap.{get};
-ghost use Rattle.lp_resolve.specs.StaticRules.{are_in_order, goals_of, has_many_heads, head_with, is_test, is_unaligned, test_arity, where_true, breaches_at, rule_breaches, first_of};
+ghost use Rattle.lp_resolve.specs.StaticRules.{are_in_order, goals_of, has_many_heads, is_test, is_unaligned, test_arity, where_true, breaches_at, rule_breaches, first_of};
 ghost use Rattle.lp_resolve.specs.declared.static_rule.StaticRule.TheVariants.{S7, S8};
 
 use crate::breach::{Breach, breach_if, earlier};

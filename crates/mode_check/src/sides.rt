@@ -1,5 +1,5 @@
 //! The heads that have variables as whole arguments.
-ghost use Rattle.std.specs.Prelude.{◌≡◌, ℕ, nat_eq, Bool, Option, OnOk, IfOk};
+ghost use Rattle.std.specs.Prelude.{◌≡◌, ℕ, nat_eq, OnOk, IfOk};
 ghost use Rattle.indexmap.specs.IndexMap.{get};
 ghost use Rattle.lp_resolve.specs.StaticRules.{goals_of, has_whole, head_with};
 ghost use Rattle.mode_check.specs.Sides.{unless_seen};

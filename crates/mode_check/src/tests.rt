@@ -1,5 +1,4 @@
 //! Programs that break a rule, with the first breach, and programs that break none.
-ghost use Rattle.std.specs.Prelude.{◌≡◌, ◌∷◌, [], false, IfOk};
 ghost use Rattle.lp_resolve.specs.WellFormed.{IsWellFormed};
 
 use crate::admission::first_breach;

@@ -2,7 +2,7 @@
 ghost use Rattle.std.specs.Prelude.{◌≡◌, ◌++◌, not, map, flat_map, IfOk, OnOk};
 ghost use Rattle.std.specs.List.{zip};
 ghost use Rattle.lp_resolve.specs.Occurrences.{walked, head_walked, front_places, occurrences, are_distinct_names};
-ghost use Rattle.lp_resolve.specs.StaticRules.{PlacedHead, unusable_variables, where_true, breaches_at, first_of};
+ghost use Rattle.lp_resolve.specs.StaticRules.{where_true, breaches_at, first_of};
 ghost use Rattle.lp_resolve.specs.declared.static_rule.StaticRule.TheVariants.{S4};
 
 use crate::breach::{Breach, breach_if, earlier};
@@ -75,14 +75,13 @@ fn first_marked(usable: &[bool], vars: &[Place]) -> Option<Breach>
     found
 }
 
-/// The first breach of S4 in a head, whose variables have these tokens.
+/// The first variable of a head whose arguments aren't distinct bound names, as a breach of S4; the head's variables have these tokens.
 pub fn first_unusable(
     alloc: Global,
     tree: &Tree,
-    place: Place,
     vars: &[Place],
 ) -> Result<Option<Breach>, AllocError>
-    ensures { IfOk result (λ found. found ≡ first_of (breaches_at S4 (unusable_variables (record { tree = tree.now; place = place; vars = vars.now })))) }
+    ensures { IfOk result (λ found. found ≡ first_of (breaches_at S4 (where_true (λ o. not (are_distinct_names o.spine)) (zip (occurrences tree.now) vars.now)))) }
 {
     let mut usable = Vec::new(alloc);
     note_tree(alloc, tree, &mut usable)?;
