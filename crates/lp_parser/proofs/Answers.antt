@@ -1,13 +1,13 @@
 -- A list of lexemes has one answer.
-use Rattle.std.proofs.Common.{◌≡◌, ℕ, ◌+◌, ◌<◌, ◌≤◌, ◌⊎◌, inl, inr, List, [], ◌∷◌, ◌++◌, length, take, drop, refl, sym, ap, subst, ◌∙◌, append_assoc, append-nil, arith, Option, Some, None}
+use Rattle.std.proofs.Common.{◌≡◌, ℕ, ◌+◌, ◌<◌, ◌≤◌, ◌⊎◌, inl, inr, List, [], ◌++◌, length, take, drop, refl, sym, ap, subst, ◌∙◌, append_assoc, append-nil, arith, Option}
 use Rattle.std.proofs.lemmas.Option.{same_Some}
-use Rattle.std.proofs.lemmas.List.{take-take, take-append-drop, take_all}
+use Rattle.std.proofs.lemmas.List.{take-take, take-append-drop}
 use Rattle.lp_parser.specs.declared.error.GrammarRule.{GrammarRule}
 use Rattle.lp_parser.specs.declared.lexeme.Lexeme.{Lexeme}
 use Rattle.lp_parser.specs.Nesting.{depth, IsShallow}
 use Rattle.lp_parser.specs.Refusal.{Viable, rule_behind, IsUnexpected, at_lexeme, at_end, IsDeep}
 use Rattle.lp_parser.specs.Reading.{Outcome, Accepted, Unexpected, Deep, Going, read, first}
-use Rattle.lp_parser.proofs.Outcomes.{Has, Reads, IsAnswer, is_accepted, is_unexpected, is_deep, answer, tree_of, run}
+use Rattle.lp_parser.proofs.Outcomes.{Has, Reads, IsAnswer, is_accepted, is_unexpected, is_deep, answer}
 
 compared : (i j : ℕ) → (i ≡ j) ⊎ ((i + 1 ≤ j) ⊎ (j + 1 ≤ i))
 compared i j = grind arith

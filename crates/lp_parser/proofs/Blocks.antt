@@ -1,9 +1,8 @@
 -- The machine of blocks reads exactly the blocks, and some lexemes lead from each of its states that is reached to a block.
-use Rattle.std.proofs.Common.{◌≡◌, ℕ, List, [], ◌∷◌, ◌++◌, refl, sym, ap, subst, ◌∙◌, append_assoc, append-nil, Option, Some, None}
+use Rattle.std.proofs.Common.{◌≡◌, ℕ, List, [], ◌∷◌, ◌++◌, refl, sym, ap, subst, append_assoc, append-nil, Option, Some, None}
 use Rattle.std.proofs.lemmas.Option.{same_Some}
 use Rattle.lp_parser.specs.declared.ast.Place.{Place}
-use Rattle.lp_parser.specs.declared.ast.WordKind.{WordKind}
-use Rattle.lp_parser.specs.declared.ast.WordKind.TheVariants.{Name, Var, Hole}
+use Rattle.lp_parser.specs.declared.ast.WordKind.TheVariants.{Name}
 use Rattle.lp_parser.specs.declared.ast.Word.{Word}
 use Rattle.lp_parser.specs.declared.ast.Rule.{Rule}
 use Rattle.lp_parser.specs.declared.ast.Block.{Block}
@@ -11,18 +10,16 @@ use Rattle.lp_parser.specs.declared.lexeme.Mark.{Mark}
 use Rattle.lp_parser.specs.declared.lexeme.Mark.TheVariants as mark
 use Rattle.lp_parser.specs.declared.lexeme.Lexeme.{Lexeme}
 use Rattle.lp_parser.specs.declared.lexeme.Lexeme.TheVariants as lexeme
-use Rattle.lp_parser.specs.declared.item_state.RulePlace.TheVariants as at
 use Rattle.lp_parser.specs.declared.item_state.RuleState.{RuleState}
 use Rattle.lp_parser.specs.declared.item_state.BlockState.{BlockState}
 use Rattle.lp_parser.specs.declared.item_state.BlockState.TheVariants as block
 use Rattle.lp_parser.specs.declared.item_state.Moved.{Moved}
-use Rattle.lp_parser.specs.declared.item_state.Moved.TheVariants.{To, Done}
 use Rattle.lp_parser.specs.Rules.{RuleOf, rule, RulesOf, no_rule, rule_and, BlockNames, no_block_name, block_name_and, BlockOf, block}
-use Rattle.lp_parser.specs.RuleMachine.{empty_rule, rule_move}
-use Rattle.lp_parser.specs.ItemMachine.{BlockMoved, block_name, between_rules, in_rule, block_move}
-use Rattle.lp_parser.proofs.Walks.{Moves, rests, moves, Ends, ends, and_moves, one_move, and_ends, moves_first, moves_within, ends_more, AtMoved, goes_to, is_done}
-use Rattle.lp_parser.proofs.Rules.{here, rule_ends}
-use Rattle.lp_parser.proofs.RulesSound.{RuleBegan, rule_began, RuleHolds, at_start, rule_move_reads}
+use Rattle.lp_parser.specs.RuleMachine.{rule_move}
+use Rattle.lp_parser.specs.ItemMachine.{block_name, between_rules, in_rule, block_move}
+use Rattle.lp_parser.proofs.Walks.{Moves, rests, moves, Ends, ends, and_moves, one_move, and_ends, moves_within, ends_more, AtMoved, goes_to, is_done}
+use Rattle.lp_parser.proofs.Rules.{rule_ends}
+use Rattle.lp_parser.proofs.RulesSound.{rule_began, RuleHolds, at_start, rule_move_reads}
 use Rattle.lp_parser.proofs.RulesCompletions.{Reached, rule_completes}
 
 names_move : {u v : List Lexeme} {ws : List Word} → BlockNames u v ws → (pre : List Word) → Moves block_move (block.Names pre) u (block.Names (pre ++ ws)) v

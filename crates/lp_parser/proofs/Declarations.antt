@@ -1,9 +1,9 @@
 -- The machine of declarations reads exactly the declarations, and each of its states has a completion.
-use Rattle.std.proofs.Common.{◌≡◌, ℕ, suc, ◌+◌, List, [], ◌∷◌, ◌++◌, refl, sym, ap, subst, ◌∙◌, append_assoc, append-nil, arith, add-one, Bool, true, false, Option, Some, None, codes}
+use Rattle.std.proofs.Common.{◌≡◌, ℕ, suc, ◌+◌, List, [], ◌∷◌, ◌++◌, refl, sym, ap, subst, append_assoc, arith, Bool, true, Option, Some, None, codes}
 use Rattle.std.proofs.lemmas.Option.{same_Some}
 use Rattle.lp_parser.specs.declared.ast.Place.{Place}
-use Rattle.lp_parser.specs.declared.ast.WordKind.TheVariants.{Name, Var, Hole}
-use Rattle.lp_parser.specs.declared.ast.Operator.TheVariants.{Implied, Or, Comma, Implies, Equal, Is, Cons, Plus, Minus, Times}
+use Rattle.lp_parser.specs.declared.ast.WordKind.TheVariants.{Name}
+use Rattle.lp_parser.specs.declared.ast.Operator.TheVariants.{Comma}
 use Rattle.lp_parser.specs.declared.ast.Word.{Word}
 use Rattle.lp_parser.specs.declared.ast.AstType.{AstType}
 use Rattle.lp_parser.specs.declared.ast.AstType.TheVariants as type
@@ -25,9 +25,9 @@ use Rattle.lp_parser.specs.declared.item_state.Moved.TheVariants.{To, Done}
 use Rattle.lp_parser.specs.Types.{TypeExp}
 use Rattle.lp_parser.specs.Declarations.{Names, last_name, name_and, KindExp, only_type, type_to, mode_of, Arg, argument, Args, last_arg, arg_and, DeclOf, kind, type, pred_alone, pred}
 use Rattle.lp_parser.specs.TypeMachine.{type_step, type_settled, type_whole}
-use Rattle.lp_parser.specs.DeclMachine.{DeclMoved, decl_name, kind_named, in_type, decl_named, kind_type, kind_typed, pred_name, with_mode, pred_mode, pred_named, pred_colon, pred_argument, pred_typed, in_arg_type, decl_move}
-use Rattle.lp_parser.proofs.Walks.{Steps, stays, steps, Moves, rests, moves, Ends, ends, and_moves, one_move, and_ends, moves_first, steps_within, AtMoved, goes_to, is_done}
-use Rattle.lp_parser.proofs.Types.{type_goes, TypeHolds, type_begins, type_step_reads, type_whole_reads, TypeCompletes, type_completes}
+use Rattle.lp_parser.specs.DeclMachine.{decl_name, kind_named, in_type, decl_named, kind_type, kind_typed, pred_name, with_mode, pred_mode, pred_named, pred_colon, pred_argument, in_arg_type, decl_move}
+use Rattle.lp_parser.proofs.Walks.{Steps, stays, steps, Moves, rests, moves, Ends, ends, one_move, and_ends, moves_first, steps_within, AtMoved, goes_to, is_done}
+use Rattle.lp_parser.proofs.Types.{type_goes, TypeHolds, type_begins, type_step_reads, type_whole_reads, type_completes}
 
 names_move : {u v : List Lexeme} {ws : List Word} → Names u v ws → (g : Given) (pre : List Word) → Moves decl_move (decl.Name g pre) u (decl.Named g (pre ++ ws)) v
 names_move (last_name x p) g pre = one_move refl

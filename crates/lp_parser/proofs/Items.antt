@@ -1,5 +1,5 @@
 -- The machines of items and of queries read exactly the programs and the queries.
-use Rattle.std.proofs.Common.{◌≡◌, ℕ, List, [], ◌∷◌, ◌++◌, refl, sym, ap, subst, ◌∙◌, append_assoc, append-nil, arith, Option, Some, None}
+use Rattle.std.proofs.Common.{◌≡◌, List, [], ◌∷◌, ◌++◌, refl, sym, ap, subst, ◌∙◌, append_assoc, append-nil, arith, Option, Some, None}
 use Rattle.std.proofs.lemmas.Option.{same_Some}
 use Rattle.lp_parser.specs.declared.ast.Place.{Place}
 use Rattle.lp_parser.specs.declared.ast.AstTerm.{AstTerm}
@@ -15,13 +15,12 @@ use Rattle.lp_parser.specs.declared.state.State.{State}
 use Rattle.lp_parser.specs.declared.state.State.TheVariants.{Want}
 use Rattle.lp_parser.specs.declared.item_state.DeclState.{DeclState}
 use Rattle.lp_parser.specs.declared.item_state.BlockState.{BlockState}
-use Rattle.lp_parser.specs.declared.item_state.BlockState.TheVariants as block
 use Rattle.lp_parser.specs.declared.item_state.ItemState.{ItemState}
 use Rattle.lp_parser.specs.declared.item_state.ItemState.TheVariants as place
 use Rattle.lp_parser.specs.declared.item_state.QueryState.{QueryState}
 use Rattle.lp_parser.specs.declared.item_state.QueryState.TheVariants as query
 use Rattle.lp_parser.specs.declared.item_state.Moved.{Moved}
-use Rattle.lp_parser.specs.declared.item_state.Moved.TheVariants.{To, Done}
+use Rattle.lp_parser.specs.declared.item_state.Moved.TheVariants.{To}
 use Rattle.lp_parser.specs.Grammar.{Shape, Phrase}
 use Rattle.lp_parser.specs.Declarations.{DeclOf}
 use Rattle.lp_parser.specs.Rules.{BlockOf, block}
@@ -29,16 +28,16 @@ use Rattle.lp_parser.specs.Program.{place_of, ItemOf, declaration, rule_block, c
 use Rattle.lp_parser.specs.TermMachine.{step, settled_at, stack_at}
 use Rattle.lp_parser.specs.DeclMachine.{decl_move}
 use Rattle.lp_parser.specs.RuleMachine.{whole}
-use Rattle.lp_parser.specs.ItemMachine.{BlockMoved, ItemMoved, block_move, in_decl, in_block, ends_clause, in_clause, begins_marked, begins, move, moved, item_step, item_whole, ends_query, in_query, query_step, query_whole}
+use Rattle.lp_parser.specs.ItemMachine.{block_move, in_decl, in_block, ends_clause, in_clause, begins_marked, begins, move, moved, item_step, item_whole, ends_query, in_query, query_step, query_whole}
 use Rattle.lp_parser.proofs.TermComplete.{Goes, stays, steps, phrase_goes}
 use Rattle.lp_parser.proofs.TermSound.{Holds, at_want, start, step_reads, bottom, bottom_is}
 use Rattle.lp_parser.proofs.TermCompletions.{completes}
-use Rattle.lp_parser.proofs.Walks.{Moves, rests, moves, Ends, ends, and_moves, one_move, and_ends, moves_first, moves_within, ends_more, AtMoved, goes_to, is_done}
+use Rattle.lp_parser.proofs.Walks.{Moves, rests, moves, Ends, ends, moves_first, moves_within, AtMoved, goes_to, is_done}
 use Rattle.lp_parser.proofs.RuleTests.{goes_within}
 use Rattle.lp_parser.proofs.RulesSound.{whole_reads}
 use Rattle.lp_parser.proofs.Declarations.{DeclBegins, kind_begins, type_of_begins, pred_begins, decl_ends, DeclHolds, decl_begins_holds, decl_move_reads, decl_completes}
 use Rattle.lp_parser.proofs.Blocks.{block_ends, BlockHolds, block_begins_holds, block_move_reads, BlockReached, block_completes}
-use Rattle.lp_parser.proofs.Outcomes.{run, tree_of, run_append, Reads}
+use Rattle.lp_parser.proofs.Outcomes.{run, tree_of, Reads}
 
 decl_within : {z : DeclState} {u v : List Lexeme} {d : Decl} → Ends decl_move z u d v → Ends move (place.Decl z) u (item.Decl d) v
 decl_within (ends m e) = ends (moves_within place.Decl (λ q z c f. ap in_decl f) m) (ap in_decl e)

@@ -1,5 +1,5 @@
 -- What the loops over the lexemes know.
-use Rattle.std.proofs.Common.{◌≡◌, ℕ, zero, suc, ◌+◌, ◌<◌, ◌≤◌, inl, inr, List, [], ◌∷◌, map, length, drop, sum, slice_get, refl, sym, ap, ◌∙◌, arith, true, false, if◌then◌else◌, Option, Some, None, option_map, nat_le}
+use Rattle.std.proofs.Common.{◌≡◌, ℕ, zero, suc, ◌+◌, ◌<◌, ◌≤◌, inl, inr, List, [], ◌∷◌, map, length, drop, sum, slice_get, refl, sym, ap, ◌∙◌, arith, if◌then◌else◌, Option, Some, None, option_map}
 use Rattle.std.proofs.lemmas.Bool.Decides.{leb_tells}
 use Rattle.std.proofs.lemmas.Option.{same_Some}
 use Rattle.lp_parser.specs.declared.error.GrammarRule.{GrammarRule}
@@ -8,7 +8,7 @@ use Rattle.lp_parser.specs.declared.lexeme.Lexeme.{Lexeme}
 use Rattle.lp_parser.specs.declared.lexeme.Lexeme.TheVariants as lexeme
 use Rattle.lp_parser.specs.Nesting.{Nesting, flat, nested}
 use Rattle.lp_parser.specs.Refusal.{rule_after}
-use Rattle.lp_parser.specs.Reading.{Outcome, Accepted, Unexpected, Deep, Reader, Progress, Going, Stopped, onward, next, ended, read, first}
+use Rattle.lp_parser.specs.Reading.{Unexpected, Deep, Reader, Going, Stopped, onward, next, ended, read, first}
 
 -- The lexeme at an index begins what is left from there.
 pub at_index : {A B : Type 0} (f : A → B) (ts : List A) (i : ℕ) (c : B) → option_map f (slice_get ts i) ≡ Some c → drop i (map f ts) ≡ c ∷ drop (i + 1) (map f ts)

@@ -1,14 +1,13 @@
 -- What a machine that reads exactly a language answers: the outcome is that of the language.
-use Rattle.std.proofs.Common.{◌≡◌, ℕ, ◌+◌, ◌<◌, ◌≤◌, ◌⊎◌, inl, inr, List, [], ◌∷◌, ◌++◌, length, take, drop, refl, sym, ap, subst, ◌∙◌, append_assoc, append-nil, arith, Bool, true, false, if◌then◌else◌, Option, Some, None, sum, nat_le}
+use Rattle.std.proofs.Common.{◌≡◌, ℕ, ◌+◌, ◌<◌, ◌≤◌, ◌⊎◌, inl, inr, List, [], ◌∷◌, ◌++◌, length, take, refl, sym, ap, subst, ◌∙◌, append_assoc, append-nil, arith, if◌then◌else◌, Option, Some, None, sum}
 use Rattle.std.proofs.lemmas.Bool.Decides.{leb_tells}
-use Rattle.std.proofs.lemmas.Option.{same_Some}
-use Rattle.std.proofs.lemmas.List.{take-take, take-append-drop, take_all, length-append}
+use Rattle.std.proofs.lemmas.List.{length-append}
 use Rattle.std.proofs.Math.Seq.{take-append_seam}
 use Rattle.lp_parser.specs.declared.error.GrammarRule.{GrammarRule}
 use Rattle.lp_parser.specs.declared.lexeme.Lexeme.{Lexeme}
 use Rattle.lp_parser.specs.Nesting.{Nesting, flat, nested, nested_all, depth, IsShallow}
 use Rattle.lp_parser.specs.Refusal.{Viable, rule_after, rule_behind, IsUnexpected, at_lexeme, at_end, IsDeep}
-use Rattle.lp_parser.specs.Reading.{Outcome, Accepted, Unexpected, Deep, Reader, Progress, Going, Stopped, onward, next, ended, read, first}
+use Rattle.lp_parser.specs.Reading.{Outcome, Accepted, Unexpected, Deep, Reader, Going, Stopped, next, ended, read, first}
 
 -- where a machine with these steps comes over the lexemes
 abbrev pub run : {Z : Type 0} → (Z → Lexeme → Option Z) → Option Z → List Lexeme → Option Z

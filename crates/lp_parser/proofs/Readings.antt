@@ -1,5 +1,5 @@
 -- `items_of` and `term_of` say what the grammar and the nesting say.
-use Rattle.std.proofs.Common.{◌≡◌, ℕ, List, [], length}
+use Rattle.std.proofs.Common.{◌≡◌, ℕ, List, []}
 use Rattle.lp_parser.specs.declared.ast.AstTerm.{AstTerm}
 use Rattle.lp_parser.specs.declared.ast.Item.{Item}
 use Rattle.lp_parser.specs.declared.error.GrammarRule.{GrammarRule}

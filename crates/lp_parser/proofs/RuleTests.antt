@@ -1,12 +1,11 @@
 -- Where a test of a rule is over.
-use Rattle.std.proofs.Common.{◌≡◌, ℕ, ◌≤◌, List, [], ◌∷◌, ◌++◌, refl, sym, ap, subst, ◌∙◌, arith, Bool, true, false, Option, Some, None}
+use Rattle.std.proofs.Common.{◌≡◌, ◌≤◌, List, [], ◌∷◌, refl, sym, ap, subst, arith, true, false, Option, Some, None}
 use Rattle.std.proofs.lemmas.Option.{same_Some}
 use Rattle.lp_parser.specs.declared.ast.Place.{Place}
 use Rattle.lp_parser.specs.declared.ast.Operator.{Operator}
 use Rattle.lp_parser.specs.declared.ast.AstTerm.{AstTerm}
 use Rattle.lp_parser.specs.declared.ast.AstTerm.TheVariants as term
 use Rattle.lp_parser.specs.declared.lexeme.Lexeme.{Lexeme}
-use Rattle.lp_parser.specs.declared.lexeme.Lexeme.TheVariants as lexeme
 use Rattle.lp_parser.specs.declared.state.Front.{Front}
 use Rattle.lp_parser.specs.declared.state.Latest.{Latest}
 use Rattle.lp_parser.specs.declared.state.Frame.{Frame}
@@ -14,14 +13,13 @@ use Rattle.lp_parser.specs.declared.state.Frame.TheVariants as frame
 use Rattle.lp_parser.specs.declared.state.State.{State}
 use Rattle.lp_parser.specs.declared.state.State.TheVariants as state
 use Rattle.lp_parser.specs.declared.item_state.Moved.{Moved}
-use Rattle.lp_parser.specs.declared.item_state.Moved.TheVariants.{To, Done}
+use Rattle.lp_parser.specs.declared.item_state.Moved.TheVariants.{To}
 use Rattle.lp_parser.specs.Grammar.{level, Closed, Phrase, quantified}
 use Rattle.lp_parser.specs.TermMachine.{atom_of, joined, attach, settle, settled_at, want, stack_at, may_be_open, infixed, step}
 use Rattle.lp_parser.specs.RuleMachine.{over_test}
 use Rattle.lp_parser.proofs.Levels.{wanted, level_eight}
 use Rattle.lp_parser.proofs.TermComplete.{Goes, stays, steps, test_goes}
 use Rattle.lp_parser.proofs.TermSound.{Reading, start, start_test, left, in_body, in_quantified, in_group, in_list, in_tail, Holds, at_want, at_quantifier, at_have, at_words, bottom, bottom_is, test_reads}
-use Rattle.lp_parser.proofs.TermCompletions.{CompletesOn, completes}
 use Rattle.lp_parser.proofs.Walks.{Moves, rests, moves}
 
 -- The machine of terms within another goes as it does.

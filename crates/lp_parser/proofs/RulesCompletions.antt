@@ -1,10 +1,8 @@
 -- Some lexemes lead from each state of a rule that is reached to a rule.
-use Rattle.std.proofs.Common.{◌≡◌, ℕ, List, [], ◌∷◌, ◌++◌, refl, sym, ap, subst, ◌∙◌, Option, Some, None}
+use Rattle.std.proofs.Common.{◌≡◌, List, [], ◌∷◌, ◌++◌, refl, ap, ◌∙◌, Option, Some, None}
 use Rattle.lp_parser.specs.declared.ast.Place.{Place}
 use Rattle.lp_parser.specs.declared.ast.WordKind.TheVariants.{Var}
 use Rattle.lp_parser.specs.declared.ast.Word.{Word}
-use Rattle.lp_parser.specs.declared.ast.AstTerm.{AstTerm}
-use Rattle.lp_parser.specs.declared.ast.RuleHead.{RuleHead}
 use Rattle.lp_parser.specs.declared.ast.Rule.{Rule}
 use Rattle.lp_parser.specs.declared.lexeme.Closer.TheVariants.{Round}
 use Rattle.lp_parser.specs.declared.lexeme.Mark.TheVariants as mark
@@ -20,12 +18,12 @@ use Rattle.lp_parser.specs.declared.item_state.RulePlace.{RulePlace}
 use Rattle.lp_parser.specs.declared.item_state.RulePlace.TheVariants as at
 use Rattle.lp_parser.specs.declared.item_state.RuleState.{RuleState}
 use Rattle.lp_parser.specs.declared.item_state.Moved.TheVariants.{To, Done}
-use Rattle.lp_parser.specs.TermMachine.{settled_at, stack_at, step}
-use Rattle.lp_parser.specs.RuleMachine.{to, with_head, with_pair, with_test, with_body, whole, over_test, head_ends, in_head, ends_test, in_test, ends_body, in_body, rule_move}
-use Rattle.lp_parser.proofs.TermComplete.{Goes, stays, steps, closing_settled}
+use Rattle.lp_parser.specs.TermMachine.{settled_at, stack_at}
+use Rattle.lp_parser.specs.RuleMachine.{with_head, with_test, with_body, whole, over_test, head_ends, in_head, ends_test, in_test, ends_body, in_body, rule_move}
+use Rattle.lp_parser.proofs.TermComplete.{Goes, stays, steps}
 use Rattle.lp_parser.proofs.TermSound.{Holds, step_reads, bottom, bottom_is}
-use Rattle.lp_parser.proofs.TermCompletions.{CompletesOn, completes, some_word}
-use Rattle.lp_parser.proofs.Walks.{Moves, rests, moves, Ends, ends, and_moves, one_move, and_ends, moves_first}
+use Rattle.lp_parser.proofs.TermCompletions.{completes}
+use Rattle.lp_parser.proofs.Walks.{rests, Ends, ends, and_ends, moves_first}
 use Rattle.lp_parser.proofs.RuleTests.{goes_within, closed_over}
 use Rattle.lp_parser.proofs.Rules.{here, no_closer}
 use Rattle.lp_parser.proofs.RulesSound.{RuleHolds, at_head, at_test, at_body}

@@ -1,37 +1,31 @@
 -- What the machine of rules reads is a rule.
-use Rattle.std.proofs.Common.{◌≡◌, ℕ, List, [], ◌∷◌, ◌++◌, refl, sym, ap, subst, ◌∙◌, append_assoc, append-nil, Option, Some, None}
+use Rattle.std.proofs.Common.{◌≡◌, ℕ, List, [], ◌∷◌, ◌++◌, refl, sym, ap, subst, append_assoc, Option, Some, None}
 use Rattle.std.proofs.lemmas.Option.{same_Some}
 use Rattle.lp_parser.specs.declared.ast.Place.{Place}
-use Rattle.lp_parser.specs.declared.ast.WordKind.{WordKind}
 use Rattle.lp_parser.specs.declared.ast.WordKind.TheVariants.{Name, Var, Hole}
-use Rattle.lp_parser.specs.declared.ast.Operator.TheVariants.{Implied, Or, Comma, Implies, Equal, Is, Cons, Plus, Minus, Times}
+use Rattle.lp_parser.specs.declared.ast.Operator.TheVariants.{Comma}
 use Rattle.lp_parser.specs.declared.ast.Word.{Word}
 use Rattle.lp_parser.specs.declared.ast.WordPair.{WordPair}
 use Rattle.lp_parser.specs.declared.ast.AstTerm.{AstTerm}
 use Rattle.lp_parser.specs.declared.ast.RuleHead.{RuleHead}
 use Rattle.lp_parser.specs.declared.ast.Rule.{Rule}
-use Rattle.lp_parser.specs.declared.lexeme.Closer.TheVariants.{Round, Square, Bar}
-use Rattle.lp_parser.specs.declared.lexeme.Mark.{Mark}
+use Rattle.lp_parser.specs.declared.lexeme.Closer.TheVariants.{Round, Bar}
 use Rattle.lp_parser.specs.declared.lexeme.Mark.TheVariants as mark
 use Rattle.lp_parser.specs.declared.lexeme.Lexeme.{Lexeme}
 use Rattle.lp_parser.specs.declared.lexeme.Lexeme.TheVariants as lexeme
-use Rattle.lp_parser.specs.declared.state.Front.TheVariants as front
-use Rattle.lp_parser.specs.declared.state.Latest.TheVariants as latest
 use Rattle.lp_parser.specs.declared.state.Frame.{Frame}
 use Rattle.lp_parser.specs.declared.state.Frame.TheVariants as frame
 use Rattle.lp_parser.specs.declared.state.State.{State}
 use Rattle.lp_parser.specs.declared.state.State.TheVariants as state
 use Rattle.lp_parser.specs.declared.item_state.Side.{Side}
 use Rattle.lp_parser.specs.declared.item_state.Side.TheVariants.{Kept, Removed}
-use Rattle.lp_parser.specs.declared.item_state.RulePlace.{RulePlace}
 use Rattle.lp_parser.specs.declared.item_state.RulePlace.TheVariants as at
 use Rattle.lp_parser.specs.declared.item_state.RuleState.{RuleState}
 use Rattle.lp_parser.specs.declared.item_state.Moved.{Moved}
-use Rattle.lp_parser.specs.declared.item_state.Moved.TheVariants.{To, Done}
 use Rattle.lp_parser.specs.Grammar.{Shape, Closed, Phrase}
 use Rattle.lp_parser.specs.Rules.{Head, goal_alone, goal_in_context, HeadList, last_head, head_and, Heads, all_kept, some_removed, all_removed, Pair, pair, PairList, last_pair, pair_and, Pairs, no_pairs, pairs, TestList, last_test, test_and, Tests, no_tests, tests, Body, no_body, body, RuleOf, rule}
-use Rattle.lp_parser.specs.TermMachine.{settled_at, stack_at, step}
-use Rattle.lp_parser.specs.RuleMachine.{RuleMoved, empty_rule, to, with_head, with_pair, with_test, with_body, whole, over_test, alone, behind_tests, behind_pairs, behind_heads, head_begins, rule_start, divided, behind_kept, behind_removed, behind_head, head_ends, context_ends, ends_head, in_head, pair_left, pair_tilde, pair_right, paired, tested, ends_test, in_test, ends_body, in_body, rule_move_at, rule_move}
+use Rattle.lp_parser.specs.TermMachine.{settled_at, step}
+use Rattle.lp_parser.specs.RuleMachine.{empty_rule, with_head, whole, over_test, alone, behind_tests, behind_pairs, behind_heads, rule_start, divided, behind_head, head_ends, context_ends, ends_head, in_head, pair_left, pair_tilde, pair_right, paired, tested, ends_test, in_test, ends_body, in_body, rule_move}
 use Rattle.lp_parser.proofs.TermSound.{Holds, at_want, at_quantifier, at_have, at_words, start, start_test, nothing, arguments, quantified_by, a_word, grouped, plain, step_reads, settled_reads, term_bottom}
 use Rattle.lp_parser.proofs.Walks.{AtMoved, goes_to, is_done}
 use Rattle.lp_parser.proofs.RuleTests.{over_reads}

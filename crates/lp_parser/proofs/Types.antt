@@ -1,5 +1,5 @@
 -- The machine of types reads exactly the types, and each of its states has a completion.
-use Rattle.std.proofs.Common.{◌≡◌, ℕ, List, [], ◌∷◌, ◌++◌, refl, sym, ap, subst, ◌∙◌, append_assoc, append-nil, Option, Some, None}
+use Rattle.std.proofs.Common.{◌≡◌, ℕ, List, [], ◌∷◌, ◌++◌, refl, ap, subst, append_assoc, append-nil, Some}
 use Rattle.std.proofs.lemmas.Option.{same_Some}
 use Rattle.lp_parser.specs.declared.ast.Place.{Place}
 use Rattle.lp_parser.specs.declared.ast.WordKind.{WordKind}
@@ -8,7 +8,7 @@ use Rattle.lp_parser.specs.declared.ast.Word.{Word}
 use Rattle.lp_parser.specs.declared.ast.AstType.{AstType}
 use Rattle.lp_parser.specs.declared.ast.AstType.TheVariants as type
 use Rattle.lp_parser.specs.declared.lexeme.Closer.{Closer}
-use Rattle.lp_parser.specs.declared.lexeme.Closer.TheVariants.{Round, Square, Bar}
+use Rattle.lp_parser.specs.declared.lexeme.Closer.TheVariants.{Round}
 use Rattle.lp_parser.specs.declared.lexeme.Mark.{Mark}
 use Rattle.lp_parser.specs.declared.lexeme.Mark.TheVariants as mark
 use Rattle.lp_parser.specs.declared.lexeme.Lexeme.{Lexeme}

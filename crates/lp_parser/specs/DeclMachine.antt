@@ -1,6 +1,5 @@
 -- The machine that reads declarations behind their first word.
 use Rattle.std.specs.Prelude.{ℕ, ◌+◌, List, [], ◌∷◌, ◌++◌, Bool, Option, Some, None}
-use Rattle.lp_parser.specs.declared.ast.Place.{Place}
 use Rattle.lp_parser.specs.declared.ast.WordKind.TheVariants.{Name}
 use Rattle.lp_parser.specs.declared.ast.Operator.TheVariants.{Comma}
 use Rattle.lp_parser.specs.declared.ast.Word.{Word}

@@ -1,5 +1,5 @@
 -- The machines that read items and queries: where each lexeme leads.
-use Rattle.std.specs.Prelude.{ℕ, List, [], ◌∷◌, ◌++◌, Option, Some, None}
+use Rattle.std.specs.Prelude.{List, [], ◌∷◌, ◌++◌, Option, Some, None}
 use Rattle.lp_parser.specs.declared.ast.Place.{Place}
 use Rattle.lp_parser.specs.declared.ast.WordKind.TheVariants.{Name}
 use Rattle.lp_parser.specs.declared.ast.Word.{Word}
@@ -33,10 +33,11 @@ use Rattle.lp_parser.specs.TermMachine.{step, settled_at}
 use Rattle.lp_parser.specs.DeclMachine.{decl_move}
 use Rattle.lp_parser.specs.RuleMachine.{empty_rule, whole, rule_move}
 
--- where a lexeme leads from a state of a block, and of an item
+-- where a lexeme leads from a state of a block
 abbrev pub BlockMoved : Type 0
 BlockMoved = Option (Moved BlockState Block)
 
+-- where a lexeme leads from a state of an item
 abbrev pub ItemMoved : Type 0
 ItemMoved = Option (Moved ItemState Item)
 

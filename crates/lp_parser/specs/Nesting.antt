@@ -1,5 +1,5 @@
 -- How deep lexemes are nested.
-use Rattle.std.specs.Prelude.{ℕ, ◌+◌, ◌≤◌, List, [], ◌∷◌, Bool, true, false, if◌then◌else◌, sum, take}
+use Rattle.std.specs.Prelude.{ℕ, ◌+◌, ◌≤◌, List, [], ◌∷◌, sum, take}
 use Rattle.lp_parser.specs.declared.lexeme.Closer.{Closer}
 use Rattle.lp_parser.specs.declared.lexeme.Closer.TheVariants.{Round, Square, Bar}
 use Rattle.lp_parser.specs.declared.lexeme.Mark.{Mark}

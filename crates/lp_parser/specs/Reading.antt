@@ -39,10 +39,11 @@ pub record IsQuery (u : List Lexeme) (t : AstTerm) : Type 0 where
   pub grammar : Query u t
   pub shallow : IsShallow u (length u)
 
--- the lists that the grammar has as programs, and as queries
+-- the lists that the grammar has as programs
 abbrev pub HasItems : List Lexeme → Type 0
 HasItems u = (is : List Item) × Program u is
 
+-- the lists that it has as queries
 abbrev pub HasTerm : List Lexeme → Type 0
 HasTerm u = (t : AstTerm) × Query u t
 

@@ -1,5 +1,5 @@
 -- The machine that reads rules behind their word `rule`.
-use Rattle.std.specs.Prelude.{ℕ, List, [], ◌∷◌, ◌++◌, Option, Some, None}
+use Rattle.std.specs.Prelude.{List, [], ◌∷◌, ◌++◌, Option, Some, None}
 use Rattle.lp_parser.specs.declared.ast.Place.{Place}
 use Rattle.lp_parser.specs.declared.ast.WordKind.TheVariants.{Var}
 use Rattle.lp_parser.specs.declared.ast.Operator.TheVariants.{Comma}

@@ -1,6 +1,5 @@
 use Rattle.std.proofs.Common.{rules, ◌+◌, ◌<◌, ◌≤◌, sum, subst, sym, ◌∙◌}
 use Rattle.lp_parser.specs.Lexemes.{lexeme_of, lexemes_of}
-use Rattle.lp_parser.specs.Nesting.{nested}
 use Rattle.lp_parser.specs.Refusal.{rule_after}
 use Rattle.lp_parser.proofs.Loops.{IsBehind, at_index, no_step, too_deep, one_step}
 use Rattle.lp_parser.proofs.reader.read.Goals as goal
