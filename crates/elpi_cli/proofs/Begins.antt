@@ -39,7 +39,7 @@ use Rattle.elpi_cli.specs.Forms.{is_clause, is_horn_clause, is_horn_goal, are_bu
 use Rattle.elpi_cli.specs.Texts.{goal_of, with_items}
 use Rattle.elpi_cli.specs.Built.{unbuilt_query, unbuilt_text}
 use Rattle.elpi_cli.specs.Top.{built_output, query_output, checked_output, texts_output}
-use Rattle.elpi_cli.specs.Begins.{IsRefusal, StopsAt, IsBroken, IsEngineFor, BuildsProgram, BuildsQuery, BuildsBoth, one, BuildsEngine, Begins}
+use Rattle.elpi_cli.specs.Begins.{IsRefusal, StopsAt, IsBroken, IsEngineFor, BuildsProgram, BuildsQuery, BuildsBoth, one, BuildsEngine, BeginsRun}
 use Rattle.elpi_cli.proofs.HornEvents.{same-output}
 use Rattle.elpi_cli.proofs.Kept.{no-lines, no-rules}
 
@@ -122,7 +122,7 @@ unbroken-output steps limit query file items none =
     ∙ ap (checked_output steps limit query (file ∷ []) (one file.name items)) none
 
 -- a program that breaks a static rule
-pub begins-broken : (file : FileEntry) (items : List Item) (query : List ℕ) (stop : TextStop) → IsBroken (file ∷ []) items stop → Begins file items query (Err stop)
+pub begins-broken : (file : FileEntry) (items : List Item) (query : List ℕ) (stop : TextStop) → IsBroken (file ∷ []) items stop → BeginsRun file items query (Err stop)
 begins-broken file items query (Refused last) is = λ steps limit.
     ap (λ (is : List Item). checked_output steps limit query (file ∷ []) (one file.name items) (first_breach (resolved_program is))) (append-nil items)
     ∙ ap (checked_output steps limit query (file ∷ []) (one file.name items)) is.1 ∙ ap (λ (l : List ℕ). line_only l Status.Refused) (sym is.2)
@@ -130,14 +130,14 @@ begins-broken file items query Memory is = tt
 
 -- a query that is refused
 pub begins-refused : (file : FileEntry) (items : List Item) (query : List ℕ) (goal : Result AstTerm (List ℕ)) (stop : TextStop) → first_breach (resolved_program items) ≡ None → goal_of query ≡ goal → StopsAt goal stop
-    → Begins file items query (Err stop)
+    → BeginsRun file items query (Err stop)
 begins-refused file items query goal (Refused last) none same is = λ steps limit.
     unbroken-output steps limit query file items none ∙ ap (query_output steps limit (one file.name items)) (same ∙ is)
 begins-refused file items query goal Memory none same is = tt
 
 -- texts that are accepted
 pub begins-built : (file : FileEntry) (items : List Item) (query : List ℕ) (goal : AstTerm) (r : Result Engine TextStop) → first_breach (resolved_program items) ≡ None → goal_of query ≡ Ok goal → BuildsEngine file.name items goal r
-    → Begins file items query r
+    → BeginsRun file items query r
 begins-built file items query goal (Ok engine) none same is = λ steps limit.
     unbroken-output steps limit query file items none ∙ ap (query_output steps limit (one file.name items)) same
     ∙ ap (built_output steps limit (one file.name items) goal) is.built ∙ sym (is.output steps limit)
@@ -186,13 +186,13 @@ accepted-items : (steps answers : ℕ) (query : List ℕ) (file : FileEntry) (it
 accepted-items steps answers query file items ast is = ap (λ (i : Result (List Item) (List ℕ)). texts_output steps answers query (file ∷ []) (with_items file.name i (Ok []))) is
 
 -- and something behind it is refused
-pub refused-later : {E : Type 0} (steps answers : ℕ) (query : List ℕ) (file : FileEntry) (items : Result (List Item) (List ℕ)) (ast : List Item) (stop : TextStop) (r : Result Prepared E) → items ≡ Ok ast → Begins file ast query (Err stop) → Prepares stop r
+pub refused-later : {E : Type 0} (steps answers : ℕ) (query : List ℕ) (file : FileEntry) (items : Result (List Item) (List ℕ)) (ast : List Item) (stop : TextStop) (r : Result Prepared E) → items ≡ Ok ast → BeginsRun file ast query (Err stop) → Prepares stop r
     → Writes (texts_output steps answers query (file ∷ []) (with_items file.name items (Ok []))) r
 refused-later steps answers query file items ast (Refused text) r read begins prepares =
     line-writes _ (Refused text) (string_bytes text) r refl (accepted-items steps answers query file items ast read ∙ begins steps answers) prepares
 refused-later steps answers query file items ast Memory r read begins prepares = memory-writes _ r prepares
 
 -- or nothing is
-pub begun : (steps answers : ℕ) (query : List ℕ) (file : FileEntry) (items : Result (List Item) (List ℕ)) (ast : List Item) (engine : Engine) → items ≡ Ok ast → Begins file ast query (Ok engine)
+pub begun : (steps answers : ℕ) (query : List ℕ) (file : FileEntry) (items : Result (List Item) (List ℕ)) (ast : List Item) (engine : Engine) → items ≡ Ok ast → BeginsRun file ast query (Ok engine)
     → texts_output steps answers query (file ∷ []) (with_items file.name items (Ok [])) ≡ horn_written answers 0 (horn_events engine.horn steps (reading engine.horn engine.machine))
 begun steps answers query file items ast engine read begins = accepted-items steps answers query file items ast read ∙ begins steps answers

@@ -123,9 +123,9 @@ abbrev pub BuildsEngine : (name : List ℕ) → List Item → AstTerm → Result
 BuildsEngine name items goal (Ok engine) = IsEngineOf name items goal engine
 BuildsEngine name items goal (Err stop) = IsUnbuilt name items goal stop
 
--- The outcome of the texts behind the file's items: the engine, or the line of the first refusal, where all of them give
--- the output of a run for any limits.
-abbrev pub Begins : FileEntry → List Item → (query : List ℕ) → Result Engine TextStop → Type 0
-Begins file items query (Ok engine) = (steps limit : ℕ) → texts_output steps limit query (file ∷ []) (Ok (one file.name items)) ≡ horn_written limit 0 (horn_events engine.horn steps (reading engine.horn engine.machine))
-Begins file items query (Err (Refused last)) = (steps limit : ℕ) → texts_output steps limit query (file ∷ []) (Ok (one file.name items)) ≡ line_only (string_bytes last) Status.Refused
-Begins file items query (Err Memory) = ⊤
+-- What the texts behind the file's items may give: the engine that writes the output of the run, for any limits, or the
+-- line that is this output, where one of the texts is refused.
+abbrev pub BeginsRun : FileEntry → List Item → (query : List ℕ) → Result Engine TextStop → Type 0
+BeginsRun file items query (Ok engine) = (steps limit : ℕ) → texts_output steps limit query (file ∷ []) (Ok (one file.name items)) ≡ horn_written limit 0 (horn_events engine.horn steps (reading engine.horn engine.machine))
+BeginsRun file items query (Err (Refused last)) = (steps limit : ℕ) → texts_output steps limit query (file ∷ []) (Ok (one file.name items)) ≡ line_only (string_bytes last) Status.Refused
+BeginsRun file items query (Err Memory) = ⊤

@@ -9,7 +9,7 @@ ghost use Rattle.elpi_cli.specs.Written.{IsStop, Emits};
 ghost use Rattle.elpi_cli.specs.Texts.{with_file, with_items, items_of};
 ghost use Rattle.elpi_cli.specs.Static.{file_entry};
 ghost use Rattle.elpi_cli.specs.Output.{line_only};
-ghost use Rattle.elpi_cli.specs.Begins.{IsRefusal, Begins};
+ghost use Rattle.elpi_cli.specs.Begins.{IsRefusal, BeginsRun};
 ghost use Rattle.elpi_cli.specs.Top.{output, files_output, texts_output, word_at, known_files, IsRunOf, IsStatusOf};
 ghost use Rattle.elpi_cli.specs.Causes.{ComesBy, ComesExactlyBy, IsComplete, IsDone, IsNoAnswer, IsBadWord, IsRefused, IsFault, IsOutOfSteps, IsMissing, IsTooLong};
 ghost use Rattle.elpi_cli.specs.Prepared.{Prepares, Loads, prepared_output, status_of, IsFileStatus, IsTextStatus};
@@ -210,7 +210,7 @@ fn engine_for(
     text: &[u8],
     ast: &Ast,
 ) -> Result<Engine, TextStop>
-    ensures { Begins (file_entry name.now text.now) ast.now query.now result }
+    ensures { BeginsRun (file_entry name.now text.now) ast.now query.now result }
 {
     let mut symbols = Symbols::new(alloc)?;
     match check_program(alloc, name, text, ast, &mut symbols) {
