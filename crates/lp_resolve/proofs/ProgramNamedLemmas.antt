@@ -62,18 +62,18 @@ module _ {A B : Type 0} (n : ℕ) (texts : A → List (List ℕ)) (table : List 
   all-values met (x ∷ xs) t h =
       let parts = in-parts table (texts x) (flat_map texts xs) t in
       All-cons P (read met x).value (read_all read (read met x).met xs).value (keeps.value met x parts.0 h)
-        (all-values (read met x).met xs parts.1 (keeps.names met x parts.0 h))
+      (all-values (read met x).met xs parts.1 (keeps.names met x parts.0 h))
 
 module _ (table : List (List ℕ)) (lt : 25 ≤ length table) where
   -- a term
   tree-keeps : Keeps (length table) texts_of table (read_tree table) (IsTreeNamed (length table))
   tree-keeps = record {
-      names = λ met t in_table h. (reading-known t table lt in_table [] met h).names;
-      value = λ met t in_table h.
+    names = λ met t in_table h. (reading-known t table lt in_table [] met h).names;
+    value = λ met t in_table h.
         let r = reading table t [] met in
         subst (IsNamed (length table)) (sym (as_term-tree_of (length r.met.names) 0 r.term (reads-well t table [] met).within))
-          (reading-known t table lt in_table [] met h).term
-    }
+        (reading-known t table lt in_table [] met h).term;
+  }
 
   -- a variable outside terms
   variable-names : (met : Met) (w : Word) → number_of table w.text < length table → AreNamesIn (length table) met.names → AreNamesIn (length table) (read_variable table met w).met.names
@@ -82,13 +82,13 @@ module _ (table : List (List ℕ)) (lt : 25 ≤ length table) where
   -- a head of a rule
   head-keeps : Keeps (length table) head_texts table (read_head table) (λ h. IsTreeNamed (length table) h.head.goal)
   head-keeps = record {
-      names = λ met h in_table known.
+    names = λ met h in_table known.
         let parts = in-parts table (word_texts h.context) (texts_of h.goal) in_table in
         tree-keeps.names (read_option (read_variable table) met h.context).met h.goal parts.1 (context met h.context parts.0 known);
-      value = λ met h in_table known.
+    value = λ met h in_table known.
         let parts = in-parts table (word_texts h.context) (texts_of h.goal) in_table in
-        tree-keeps.value (read_option (read_variable table) met h.context).met h.goal parts.1 (context met h.context parts.0 known)
-    } where
+        tree-keeps.value (read_option (read_variable table) met h.context).met h.goal parts.1 (context met h.context parts.0 known);
+  } where
     context : (met : Met) (o : Option Word) → AreIn table (word_texts o) → AreNamesIn (length table) met.names → AreNamesIn (length table) (read_option (read_variable table) met o).met.names
     context met None t h = h
     context met (Some w) t h = variable-names met w t.0 h
@@ -96,9 +96,9 @@ module _ (table : List (List ℕ)) (lt : 25 ≤ length table) where
   -- a pair
   pair-keeps : Keeps (length table) pair_texts table (read_pair table) (λ p. Unit {0})
   pair-keeps = record {
-      names = λ met p in_table h. variable-names (read_variable table met p.left).met p.right in_table.1.0 (variable-names met p.left in_table.0 h);
-      value = λ met p in_table h. tt
-    }
+    names = λ met p in_table h. variable-names (read_variable table met p.left).met p.right in_table.1.0 (variable-names met p.left in_table.0 h);
+    value = λ met p in_table h. tt;
+  }
 
   -- a term that may be missing
   option-value : (met : Met) (o : Option AstTerm) → AreIn table (term_texts o) → AreNamesIn (length table) met.names → IfSome (read_option (read_tree table) met o).value (IsTreeNamed (length table))
@@ -131,13 +131,13 @@ module _ (table : List (List ℕ)) (lt : 25 ≤ length table) where
       record {
         names = known;
         heads = subst (All (IsTreeNamed n)) (sym (map-append (λ h. h.goal) (map (λ h. h.head) kept.value) (map (λ h. h.head) removed.value)))
-          (All-append (IsTreeNamed n) (map (λ h. h.goal) (map (λ h. h.head) kept.value)) (map (λ h. h.goal) (map (λ h. h.head) removed.value))
+            (All-append (IsTreeNamed n) (map (λ h. h.goal) (map (λ h. h.head) kept.value)) (map (λ h. h.goal) (map (λ h. h.head) removed.value))
             (All-map (IsTreeNamed n) (λ h. h.goal) (map (λ h. h.head) kept.value) (All-map (λ h. IsTreeNamed n h.goal) (λ h. h.head) kept.value
-              (all-values n head_texts table (read_head table) (λ h. IsTreeNamed n h.head.goal) head-keeps nothing_met r.kept p4.0 tt)))
+            (all-values n head_texts table (read_head table) (λ h. IsTreeNamed n h.head.goal) head-keeps nothing_met r.kept p4.0 tt)))
             (All-map (IsTreeNamed n) (λ h. h.goal) (map (λ h. h.head) removed.value) (All-map (λ h. IsTreeNamed n h.goal) (λ h. h.head) removed.value
-              (all-values n head_texts table (read_head table) (λ h. IsTreeNamed n h.head.goal) head-keeps kept.met r.removed p4.1 k1))));
+            (all-values n head_texts table (read_head table) (λ h. IsTreeNamed n h.head.goal) head-keeps kept.met r.removed p4.1 k1))));
         tests = all-values n texts_of table (read_tree table) (IsTreeNamed n) tree-keeps pairs.met r.tests p2.1 k3;
-        body = option-value tests.met r.body p1.1 k4
+        body = option-value tests.met r.body p1.1 k4;
       }
 
   -- the symbols of words
@@ -182,10 +182,10 @@ module _ (table : List (List ℕ)) (lt : 25 ≤ length table) where
   -- a program
   pub program_of-named : (items : List Item) → AreIn table (program_texts items) → IsProgramNamed (length table) (program_of table items)
   program_of-named items t = record {
-      clauses = all-items (IsClauseNamed (length table)) (item_clauses table) item_clauses-named items t;
-      rules = all-items (IsRuleNamed (length table)) (item_rules table) item_rules-named items t;
-      decls = all-items (λ d. d.name.0 < length table) (item_lines table) item_lines-named items t
-    }
+    clauses = all-items (IsClauseNamed (length table)) (item_clauses table) item_clauses-named items t;
+    rules = all-items (IsRuleNamed (length table)) (item_rules table) item_rules-named items t;
+    decls = all-items (λ d. d.name.0 < length table) (item_lines table) item_lines-named items t;
+  }
 
 -- a table with the reserved names has 25 at least
 pub reserved-long : (table : List (List ℕ)) → Begins reserved_names table → 25 ≤ length table
