@@ -102,7 +102,51 @@ fn list_tree(alloc: Global, elements: Args, tail: Tree) -> Result<Tree, AllocErr
     Ok(list)
 }
 
+// The tree of a word.
+fn read_word_tree(
+    alloc: Global,
+    term: &AstTerm,
+    symbols: &mut Symbols,
+    scope: &mut Scope,
+    variables: &mut Variables,
+) -> Result<Tree, AllocError>
+    ensures table { OnOk result (symbols.new ≡ interned_all symbols.old (texts_of term.now)) }
+    ensures begins { Begins symbols.old symbols.new }
+    ensures scope { OnOk result (scope.new ≡ scope.old) }
+    ensures read { IfOk result (IsRead symbols.new scope.old variables.old term.now variables.new) }
+{
+    let AstTerm::Word(kind, text, place) = term else {
+        return Err(AllocError);
+    };
+    let symbol = symbols.intern(text.as_slice())?;
+    let head = read_word(*kind, symbol, *place, scope, variables)?;
+    Ok(atom(alloc, head))
+}
+
+// The tree of a string.
+fn read_string(
+    alloc: Global,
+    term: &AstTerm,
+    symbols: &mut Symbols,
+    scope: &mut Scope,
+    variables: &mut Variables,
+) -> Result<Tree, AllocError>
+    ensures table { OnOk result (symbols.new ≡ interned_all symbols.old (texts_of term.now)) }
+    ensures begins { Begins symbols.old symbols.new }
+    ensures scope { OnOk result (scope.new ≡ scope.old) }
+    ensures read { IfOk result (IsRead symbols.new scope.old variables.old term.now variables.new) }
+{
+    let AstTerm::Str(text, _) = term else {
+        return Err(AllocError);
+    };
+    let symbol = symbols.intern(text.as_slice())?;
+    Ok(atom(alloc, Head::Str(symbol)))
+}
+
 // The tree of a term under the bound words of the scope, which stays; its words go into the table.
+//
+// Each form has a function of its own, so that little is kept for each level of a deep term; each of them answers
+// for its form alone, and is called with no other.
 #[cycle(read)]
 fn read(
     alloc: Global,
@@ -117,47 +161,130 @@ fn read(
     ensures read { IfOk result (IsRead symbols.new scope.old variables.old term.now variables.new) }
 {
     match term {
-        AstTerm::Word(kind, text, place) => {
-            let symbol = symbols.intern(text.as_slice())?;
-            let head = read_word(*kind, symbol, *place, scope, variables)?;
-            Ok(atom(alloc, head))
-        }
+        AstTerm::Word(_, _, _) => read_word_tree(alloc, term, symbols, scope, variables),
         AstTerm::Int(value, _) => Ok(atom(alloc, Head::Int(*value))),
-        AstTerm::Str(text, _) => {
-            let symbol = symbols.intern(text.as_slice())?;
-            Ok(atom(alloc, Head::Str(symbol)))
+        AstTerm::Str(_, _) => read_string(alloc, term, symbols, scope, variables),
+        AstTerm::App(_, _) => read_application(alloc, term, symbols, scope, variables),
+        AstTerm::Bind(_, _, _) => read_abstraction(alloc, term, symbols, scope, variables),
+        AstTerm::Op(_, _, _, _) => read_operator(alloc, term, symbols, scope, variables),
+        AstTerm::Quant(_, _, _) => read_quantifier(alloc, term, symbols, scope, variables),
+        AstTerm::List(_, _, _) => read_list(alloc, term, symbols, scope, variables),
+    }
+}
+
+// The tree of an application.
+#[cycle(read)]
+fn read_application(
+    alloc: Global,
+    term: &AstTerm,
+    symbols: &mut Symbols,
+    scope: &mut Scope,
+    variables: &mut Variables,
+) -> Result<Tree, AllocError>
+    ensures table { OnOk result (symbols.new ≡ interned_all symbols.old (texts_of term.now)) }
+    ensures begins { Begins symbols.old symbols.new }
+    ensures scope { OnOk result (scope.new ≡ scope.old) }
+    ensures read { IfOk result (IsRead symbols.new scope.old variables.old term.now variables.new) }
+{
+    let AstTerm::App(head, arguments) = term else {
+        return Err(AllocError);
+    };
+    let function = read(alloc, head.get(), symbols, scope, variables)?;
+    let arguments = read_all(alloc, arguments, symbols, scope, variables)?;
+    applied_all(alloc, function, arguments)
+}
+
+// The tree of an abstraction.
+#[cycle(read)]
+fn read_abstraction(
+    alloc: Global,
+    term: &AstTerm,
+    symbols: &mut Symbols,
+    scope: &mut Scope,
+    variables: &mut Variables,
+) -> Result<Tree, AllocError>
+    ensures table { OnOk result (symbols.new ≡ interned_all symbols.old (texts_of term.now)) }
+    ensures begins { Begins symbols.old symbols.new }
+    ensures scope { OnOk result (scope.new ≡ scope.old) }
+    ensures read { IfOk result (IsRead symbols.new scope.old variables.old term.now variables.new) }
+{
+    let AstTerm::Bind(text, _, body) = term else {
+        return Err(AllocError);
+    };
+    let word = symbols.intern(text.as_slice())?;
+    scope.enter(word)?;
+    let body = read(alloc, body.get(), symbols, scope, variables)?;
+    scope.leave();
+    abstraction(alloc, body)
+}
+
+// The tree of an operator with its operands.
+#[cycle(read)]
+fn read_operator(
+    alloc: Global,
+    term: &AstTerm,
+    symbols: &mut Symbols,
+    scope: &mut Scope,
+    variables: &mut Variables,
+) -> Result<Tree, AllocError>
+    ensures table { OnOk result (symbols.new ≡ interned_all symbols.old (texts_of term.now)) }
+    ensures begins { Begins symbols.old symbols.new }
+    ensures scope { OnOk result (scope.new ≡ scope.old) }
+    ensures read { IfOk result (IsRead symbols.new scope.old variables.old term.now variables.new) }
+{
+    let AstTerm::Op(operator, _, left, right) = term else {
+        return Err(AllocError);
+    };
+    let left = read(alloc, left.get(), symbols, scope, variables)?;
+    let right = read(alloc, right.get(), symbols, scope, variables)?;
+    constant_of_two(alloc, operator_symbol(*operator), left, right)
+}
+
+// The tree of a quantifier with what it is applied to.
+#[cycle(read)]
+fn read_quantifier(
+    alloc: Global,
+    term: &AstTerm,
+    symbols: &mut Symbols,
+    scope: &mut Scope,
+    variables: &mut Variables,
+) -> Result<Tree, AllocError>
+    ensures table { OnOk result (symbols.new ≡ interned_all symbols.old (texts_of term.now)) }
+    ensures begins { Begins symbols.old symbols.new }
+    ensures scope { OnOk result (scope.new ≡ scope.old) }
+    ensures read { IfOk result (IsRead symbols.new scope.old variables.old term.now variables.new) }
+{
+    let AstTerm::Quant(universal, _, body) = term else {
+        return Err(AllocError);
+    };
+    let body = read(alloc, body.get(), symbols, scope, variables)?;
+    constant_of_one(alloc, quantifier_symbol(*universal), body)
+}
+
+// The tree of a list.
+#[cycle(read)]
+fn read_list(
+    alloc: Global,
+    term: &AstTerm,
+    symbols: &mut Symbols,
+    scope: &mut Scope,
+    variables: &mut Variables,
+) -> Result<Tree, AllocError>
+    ensures table { OnOk result (symbols.new ≡ interned_all symbols.old (texts_of term.now)) }
+    ensures begins { Begins symbols.old symbols.new }
+    ensures scope { OnOk result (scope.new ≡ scope.old) }
+    ensures read { IfOk result (IsRead symbols.new scope.old variables.old term.now variables.new) }
+{
+    let AstTerm::List(_, elements, tail) = term else {
+        return Err(AllocError);
+    };
+    let elements = read_all(alloc, elements, symbols, scope, variables)?;
+    match tail {
+        Some(tail) => {
+            let tail = read(alloc, tail.get(), symbols, scope, variables)?;
+            list_tree(alloc, elements, tail)
         }
-        AstTerm::App(head, arguments) => {
-            let function = read(alloc, head.get(), symbols, scope, variables)?;
-            let arguments = read_all(alloc, arguments, symbols, scope, variables)?;
-            applied_all(alloc, function, arguments)
-        }
-        AstTerm::Bind(text, _, body) => {
-            let word = symbols.intern(text.as_slice())?;
-            scope.enter(word)?;
-            let body = read(alloc, body.get(), symbols, scope, variables)?;
-            scope.leave();
-            abstraction(alloc, body)
-        }
-        AstTerm::Op(operator, _, left, right) => {
-            let left = read(alloc, left.get(), symbols, scope, variables)?;
-            let right = read(alloc, right.get(), symbols, scope, variables)?;
-            constant_of_two(alloc, operator_symbol(*operator), left, right)
-        }
-        AstTerm::Quant(universal, _, body) => {
-            let body = read(alloc, body.get(), symbols, scope, variables)?;
-            constant_of_one(alloc, quantifier_symbol(*universal), body)
-        }
-        AstTerm::List(_, elements, tail) => {
-            let elements = read_all(alloc, elements, symbols, scope, variables)?;
-            match tail {
-                Some(tail) => {
-                    let tail = read(alloc, tail.get(), symbols, scope, variables)?;
-                    list_tree(alloc, elements, tail)
-                }
-                None => list_tree(alloc, elements, atom(alloc, Head::Con(NIL))),
-            }
-        }
+        None => list_tree(alloc, elements, atom(alloc, Head::Con(NIL))),
     }
 }
 
