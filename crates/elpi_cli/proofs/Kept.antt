@@ -2,11 +2,11 @@
 use Rattle.std.proofs.Common.{◌≡◌, ℕ, ◌-◌, ◌≤◌, Bool, true, false, cond, nat_eq, nat_lt, nat_le, ◌&&◌, slice_index_or, List, [], ◌∷◌, ◌++◌, length, map, take, drop, Some, None, refl, ap, sym, subst, ◌∙◌, append_assoc, length-append, arith}
 use Rattle.std.proofs.lemmas.List.{map-append, drop-append-le, take-append-le, length-drop}
 use Rattle.std.specs.Prelude.{IsTrue, flat_map}
-use Rattle.std.specs.List.{list_all, filter_map}
+use Rattle.std.specs.List.{list_all}
 use Rattle.lp_parser.specs.declared.ast.Item.{Item}
 use Rattle.lp_parser.specs.declared.ast.Item.TheVariants as item
 use Rattle.lp_resolve.specs.declared.program.ClauseTree.{ClauseTree}
-use Rattle.lp_resolve.specs.ProgramReading.{item_line, item_rules}
+use Rattle.lp_resolve.specs.ProgramReading.{item_lines, item_rules}
 use Rattle.lp_resolve.specs.declared.query.Query.{Query}
 use Rattle.lp_resolve.specs.Plain.{plain_clause}
 use Rattle.ref_terms.specs.search.Program.{Clause}
@@ -152,7 +152,7 @@ program-built cs horn places so indexed = record {
 }
 
 -- clauses alone declare no predicate
-pub no-lines : (table : List (List ℕ)) (items : List Item) → list_all is_clause items ≡ true → filter_map (item_line table) items ≡ []
+pub no-lines : (table : List (List ℕ)) (items : List Item) → list_all is_clause items ≡ true → flat_map (item_lines table) items ≡ []
 no-lines table [] e = refl
 no-lines table (item.Clause c ∷ items) e = no-lines table items e
 no-lines table (item.Decl d ∷ items) e = absurd (let no = e in cc)
