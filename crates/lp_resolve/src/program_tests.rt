@@ -211,9 +211,20 @@ fn rules_are_read(rt: HostRuntime) -> Result<(), AllocError> {
     };
     assert_eq!(rt; rule.names.as_slice(), [Sym(25)].as_slice());
     assert_eq!(rt; rule.vars, 5);
-    assert!(rt; matches!(rule.kept.as_slice(), [HeadTree { context: Some(0), .. }]));
+    assert!(rt;
+        matches!(
+            rule.kept.as_slice(),
+            [HeadTree {
+                context: Some(0),
+                ..
+            }]
+        )
+    );
     assert!(rt; matches!(rule.removed.as_slice(), [HeadTree { context: None, .. }]));
-    assert_eq!(rt; rule.pairs.as_slice(), [PairTree { left: 1, right: 3 }].as_slice());
+    assert_eq!(rt;
+        rule.pairs.as_slice(),
+        [PairTree { left: 1, right: 3 }].as_slice()
+    );
     assert!(rt; matches!(rule.tests.as_slice(), [Tree::Ap(Head::Con(Sym(14)), _)]));
     assert!(rt; matches!(rule.body, Some(Tree::Ap(Head::Con(Sym(9)), _))));
     Ok(())
