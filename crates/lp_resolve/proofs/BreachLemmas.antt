@@ -44,13 +44,13 @@ is_first-front a bs m f true e b is =
     let same : m ≡ b = cc in
     subst (IsFirst (a ∷ bs)) same (record {
       there = contains-more a m bs f.there;
-      least = All-cons (λ c. is_before c m ≡ false) a bs (before-once m a e) f.least
+      least = All-cons (λ c. is_before c m ≡ false) a bs (before-once m a e) f.least;
     })
 is_first-front a bs m f false e b is =
     let same : a ≡ b = cc in
     subst (IsFirst (a ∷ bs)) same (record {
       there = (0, omega arith, refl);
-      least = All-cons (λ c. is_before c a ≡ false) a bs (before-same a) (λ k d within. before-through _ m a (f.least k d within) e)
+      least = All-cons (λ c. is_before c a ≡ false) a bs (before-same a) (λ k d within. before-through _ m a (f.least k d within) e);
     })
 
 -- alone
@@ -59,7 +59,7 @@ is_first-alone a bs none b is =
     let same : a ≡ b = cc in
     subst (IsFirst (a ∷ bs)) same (rw none (record {
       there = (0, omega arith, refl);
-      least = All-cons (λ c. is_before c a ≡ false) a [] (before-same a) (All-nil (λ c. is_before c a ≡ false))
+      least = All-cons (λ c. is_before c a ≡ false) a [] (before-same a) (All-nil (λ c. is_before c a ≡ false));
     }))
 
 -- the first of them

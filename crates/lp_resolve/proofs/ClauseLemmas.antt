@@ -29,7 +29,7 @@ clause_with-formed c tree met formed enough =
     record {
       head = parts.0;
       body = parts.1;
-      var_places = simp length-take (omega arith)
+      var_places = simp length-take (omega arith);
     }
 
 -- a clause of the text is well formed

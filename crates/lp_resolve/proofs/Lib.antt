@@ -15,6 +15,7 @@ pub mod PlacesFacts
 pub mod Positions
 pub mod PredicateLemmas
 pub mod ProgramLemmas
+pub mod ProgramNamedLemmas
 pub mod PutLemmas
 pub mod QueryFacts
 pub mod ReadingFacts

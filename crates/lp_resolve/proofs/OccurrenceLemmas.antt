@@ -12,7 +12,6 @@ use Rattle.lp_resolve.specs.Occurrences.{Walked, Front, front_at, walked_at, wal
 pub walked-ap : (head : Head) (args : List Tree) → walked (Ap head args) ≡ walked_at (Tree-F.Ap (head_walked head) (map walked args))
 walked-ap head args = ap walked (sym (rolls-Ap head args)) ∙ fold-roll-Tree Front Walked front_at walked_at (Tree-F.Ap head args)
 
-
 -- the places inside the arguments
 pub length-places : (args : List Tree) → length (flat_map (λ a. a.places) (map walked args)) ≡ sum_by (λ t. length (occurrences t)) args
 length-places args = ap length (flat_map-map (λ a. a.places) walked args) ∙ length-flat_map occurrences args

@@ -16,20 +16,19 @@ use Rattle.lp_resolve.proofs.TreeOf.{tree_of-as_term}
 -- a term
 pub term-read : (table : List (List ℕ)) (met after : Met) (t : AstTerm) (tree : Tree) → IsRead table [] met t after tree → ReadsAs read_tree table met t tree after
 term-read table met after t tree it = record {
-    is = λ later b.
+  is = λ later b.
       ap (λ (r : Reading). record { value = tree_of r.term; met = r.met }) (it.reads later b)
-      ∙ ap (λ (u : Tree). record { value = u; met = after }) (tree_of-as_term tree it.fits)
-  }
-
+      ∙ ap (λ (u : Tree). record { value = u; met = after }) (tree_of-as_term tree it.fits);
+}
 
 -- a variable outside terms
 pub variable-read : (table next : List (List ℕ)) (met after : Met) (w : Word) (number : ℕ)
     → next ≡ interned table w.text → number ≡ number_in met.names (number_of next w.text) → after ≡ met_word (number_of next w.text) w.place met
     → ReadsAs read_variable next met w number after
 variable-read table next met after w number grown n m = record {
-    is = λ later b.
+  is = λ later b.
       let same = number-later table w.text later (subst (λ t. Begins t later) grown b) ∙ ap (λ t. number_of t w.text) (sym grown) in
       ap (λ (k : ℕ). record { value = number_in met.names k; met = met_word k w.place met }) same
       ∙ ap (λ (v : ℕ). record { value = v; met = met_word (number_of next w.text) w.place met }) (sym n)
-      ∙ ap (λ (a : Met). record { value = number; met = a }) (sym m)
-  }
+      ∙ ap (λ (a : Met). record { value = number; met = a }) (sym m);
+}

@@ -17,7 +17,6 @@ use Rattle.lp_resolve.proofs.Counts.{count, count_head}
 use Rattle.lp_resolve.proofs.OccurrenceLemmas.{length-occurrences-ap}
 use Rattle.lp_resolve.proofs.ReadingFacts.{reads-well}
 
-
 -- an abstraction
 walked-lam : (body : Tree) → walked (Lam body) ≡ walked_at (Tree-F.Lam (walked body))
 walked-lam body = ap walked (sym (rolls-Lam body)) ∙ fold-roll-Tree Front Walked front_at walked_at (Tree-F.Lam body)
@@ -50,7 +49,7 @@ length-before : (t : Term) (args : List Tree) → length (occurrences (tree_befo
 length-before (term.App f a) args =
     let rest = sum_by-cons (λ x. length (occurrences x)) (tree_before [] a) args in
     let whole : length (occurrences (tree_before args (term.App f a))) ≡ count f + (length (occurrences (tree_before [] a)) + sum_by (λ x. length (occurrences x)) args) =
-      length-before f (tree_before [] a ∷ args) ∙ ap (λ n. count f + n) rest in
+    length-before f (tree_before [] a ∷ args) ∙ ap (λ n. count f + n) rest in
     let inner : length (occurrences (tree_before [] a)) ≡ count a + 0 = length-before a [] in
     omega arith
 length-before (term.At h) args =

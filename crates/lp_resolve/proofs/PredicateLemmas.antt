@@ -40,6 +40,7 @@ module _ (s : ℕ) where
     here : (v : Option Pred) (b : Bool) (q : Pred) → q.declared ≡ b → final (cond b (Some q) (Some (declared_as d))) (declared_first s lines) h ≡ cond b (Some q) (Some (declared_as d))
     here v true q e = rw e refl
     here v false q e = refl
+
     at : (b : Bool) (v : Option Pred) → final (cond b (declared_after v (declared_as d)) v) (declared_first s lines) h ≡ final v (cond b (Some (declared_as d)) (declared_first s lines)) h
     at true None = refl
     at true (Some q) = here v q.declared q refl
@@ -123,6 +124,7 @@ seen-clause s preds c = by (constant_of c.head) where
       → pred_at s (with_clause o n (undeclared_as c) preds) ≡ cond (nat_eq s n) (clause_after (pred_at s preds) (undeclared_as c)) (pred_at s preds)
   at n None e = lookup-with s n (undeclared_as c) preds ∙ sym (own-pred s n preds None (λ v. clause_after v (undeclared_as c)) (λ v. v) e)
   at n (Some q) e = same-or s n preds q e ∙ sym (own-pred s n preds (Some q) (λ v. clause_after v (undeclared_as c)) (λ v. v) e)
+
   by : (o : Option ℕ) → pred_at s (option_map_or (λ n. with_clause (pred_at n preds) n (undeclared_as c) preds) o preds)
       ≡ cond (option_map_or (nat_eq s) o false) (clause_after (pred_at s preds) (undeclared_as c)) (pred_at s preds)
   by None = refl

@@ -55,7 +55,7 @@ item_rules-formed table (item.Block b) = all-map IsRuleFormed (rule_of table (ma
 -- the program of the items is well formed
 pub program_of-formed : (table : List (List ℕ)) (items : List Item) → IsWellFormed (program_of table items)
 program_of-formed table items = record {
-    clauses = all-flat_map IsClauseFormed (item_clauses table) (item_clauses-formed table) items;
-    rules = all-flat_map IsRuleFormed (item_rules table) (item_rules-formed table) items;
-    preds = refl
-  }
+  clauses = all-flat_map IsClauseFormed (item_clauses table) (item_clauses-formed table) items;
+  rules = all-flat_map IsRuleFormed (item_rules table) (item_rules-formed table) items;
+  preds = refl;
+}

@@ -29,10 +29,10 @@ module _ {A : Type 0} (xs : List A) (i : ℕ) (x : A) (within : i < length xs) (
       → HaveTexts texts start table (take i xs) → Begins table next → next ≡ interned_all table (texts x) → HaveTexts texts start next (take (i + 1) xs)
   have_texts-more texts start table next so_far b grown =
       subst (λ zs. HaveTexts texts start next zs) taken-more
-        (record {
-          begins = begins-trans so_far.begins b;
-          table_is = grown ∙ ap (λ t. interned_all t (texts x)) so_far.table_is ∙ interned_all-more start (flat_map texts (take i xs)) (texts x) ∙ ap (interned_all start) (flat_map_last texts (take i xs) x)
-        })
+      (record {
+        begins = begins-trans so_far.begins b;
+        table_is = grown ∙ ap (λ t. interned_all t (texts x)) so_far.table_is ∙ interned_all-more start (flat_map texts (take i xs)) (texts x) ∙ ap (interned_all start) (flat_map_last texts (take i xs) x);
+      })
 
   -- what it gives
   pub have_put-more : {B : Type 0} (gives : List (List ℕ) → List A → List B) (table next : List (List ℕ)) (before now after : List B) (one : List (List ℕ) → List B)
@@ -41,8 +41,10 @@ module _ {A : Type 0} (xs : List A) (i : ℕ) (x : A) (within : i < length xs) (
       → HavePut gives next before (take (i + 1) xs) after
   have_put-more gives table next before now after one law so_far b last =
       subst (λ zs. HavePut gives next before zs after) taken-more
-        (record { is = λ later c.
-          last later c
-          ∙ ap (λ ys. ys ++ one later) (so_far.is later (begins-trans b c))
-          ∙ append_assoc before (gives later (take i xs)) (one later)
-          ∙ ap (λ ys. before ++ ys) (sym (law later)) })
+      (record {
+        is = λ later c.
+            last later c
+            ∙ ap (λ ys. ys ++ one later) (so_far.is later (begins-trans b c))
+            ∙ append_assoc before (gives later (take i xs)) (one later)
+            ∙ ap (λ ys. before ++ ys) (sym (law later));
+      })

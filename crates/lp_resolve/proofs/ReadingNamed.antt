@@ -31,7 +31,7 @@ AreIn table [] = Unit {0}
 AreIn table (text ∷ texts) = (number_of table text < length table) × AreIn table texts
 
 -- those of both parts
-in-parts : (table : List (List ℕ)) (xs ys : List (List ℕ)) → AreIn table (xs ++ ys) → AreIn table xs × AreIn table ys
+pub in-parts : (table : List (List ℕ)) (xs ys : List (List ℕ)) → AreIn table (xs ++ ys) → AreIn table xs × AreIn table ys
 in-parts table [] ys h = (tt, h)
 in-parts table (x ∷ xs) ys h = let rest = in-parts table xs ys h.1 in ((h.0, rest.0), rest.1)
 
@@ -65,7 +65,7 @@ names-last n [] v h lt = (lt, tt)
 names-last n (u ∷ vs) v h lt = (h.0, names-last n vs v h.1 lt)
 
 -- a word
-names-word : (n w : ℕ) (vs : List Variable) → AreNamesIn n vs → w < n → AreNamesIn n (with_word w vs)
+pub names-word : (n w : ℕ) (vs : List Variable) → AreNamesIn n vs → w < n → AreNamesIn n (with_word w vs)
 names-word n w vs h lt = at (list_any (is_of w) vs) where
   at : (b : Bool) → AreNamesIn n (cond b vs (vs ++ variable w false ∷ []))
   at true = h

@@ -9,7 +9,6 @@ use Rattle.lp_resolve.specs.ProgramReading.{Read, read_all, read_option}
 use Rattle.lp_resolve.specs.ReadsAs.{ReadsAs}
 use Rattle.lp_resolve.proofs.BeginsLemmas.{begins-refl, begins-trans}
 
-
 -- texts after others
 pub interned_all-more : (start : List (List ℕ)) (xs ys : List (List ℕ)) → interned_all (interned_all start xs) ys ≡ interned_all start (xs ++ ys)
 interned_all-more start xs ys = sym (fold-append interned start xs ys)
@@ -35,11 +34,11 @@ module _ {A B : Type 0} (read : List (List ℕ) → Met → A → Read B) where
       → ReadsAs (λ t. read_all (read t)) table before xs ys met → Begins table next → ReadsAs read next met x y after
       → ReadsAs (λ t. read_all (read t)) next before (xs ++ x ∷ []) (ys ++ y ∷ []) after
   reads_as-more table next before met after xs ys x y front b last = record {
-      is = λ later c.
+    is = λ later c.
         read_all-last (read later) before xs x
         ∙ ap (λ r. record { value = r.value ++ (read later r.met x).value ∷ []; met = (read later r.met x).met }) (front.is later (begins-trans b c))
-        ∙ ap (λ r. record { value = ys ++ r.value ∷ []; met = r.met }) (last.is later c)
-    }
+        ∙ ap (λ r. record { value = ys ++ r.value ∷ []; met = r.met }) (last.is later c);
+  }
 
   -- a missing item
   pub reads_as-missing : (table : List (List ℕ)) (met : Met) → ReadsAs (λ t. read_option (read t)) table met None None met
@@ -74,8 +73,8 @@ module _ {A B : Type 0} (texts : A → List (List ℕ)) (read : List (List ℕ) 
   have_read-more start table next before met after xs i ys x y so_far within item b grown it =
       let more : take i xs ++ x ∷ [] ≡ take (i + 1) xs = ap (λ z. take i xs ++ z ∷ []) item ∙ sym (take_more xs i x within) in
       subst (λ zs. HaveRead texts read start next before zs (ys ++ y ∷ []) after) more
-        (record {
-          begins = begins-trans so_far.begins b;
-          table_is = grown ∙ ap (λ t. interned_all t (texts x)) so_far.table_is ∙ interned_all-more start (flat_map texts (take i xs)) (texts x) ∙ ap (interned_all start) (flat_map_last texts (take i xs) x);
-          reads = reads_as-more read table next before met after (take i xs) ys x y so_far.reads b it
-        })
+      (record {
+        begins = begins-trans so_far.begins b;
+        table_is = grown ∙ ap (λ t. interned_all t (texts x)) so_far.table_is ∙ interned_all-more start (flat_map texts (take i xs)) (texts x) ∙ ap (interned_all start) (flat_map_last texts (take i xs) x);
+        reads = reads_as-more read table next before met after (take i xs) ys x y so_far.reads b it;
+      })

@@ -41,8 +41,8 @@ module _ {A B : Type 0} (read : Met → A → Read B) (P : ℕ → B → Type 0)
   read_all-holds met (x ∷ xs) =
       let n = length (read_all read (read met x).met xs).met.names in
       All-cons (P n) (read met x).value (read_all read (read met x).met xs).value
-        (sound.more (length (read met x).met.names) n (read_all-grows (read met x).met xs) (read met x).value (sound.holds met x))
-        (read_all-holds (read met x).met xs)
+      (sound.more (length (read met x).met.names) n (read_all-grows (read met x).met xs) (read met x).value (sound.holds met x))
+      (read_all-holds (read met x).met xs)
 
   -- of more variables too
   pub all-more : (m n : ℕ) → m ≤ n → (bs : List B) → All (P m) bs → All (P n) bs
@@ -95,30 +95,30 @@ number-below names word = at (list_any (is_of word) names) refl where
 -- variables outside terms
 variable-sound : (table : List (List ℕ)) → IsSound (read_variable table) (λ n v. v < n)
 variable-sound table = record {
-    grows = λ met w. (number-below met.names (number_of table w.text)).1;
-    holds = λ met w. (number-below met.names (number_of table w.text)).0;
-    more = λ m n le v lt. omega arith
-  }
+  grows = λ met w. (number-below met.names (number_of table w.text)).1;
+  holds = λ met w. (number-below met.names (number_of table w.text)).0;
+  more = λ m n le v lt. omega arith;
+}
 
 -- terms
 tree-sound : (table : List (List ℕ)) → IsSound (read_tree table) (λ n t. IsFormed n 0 t)
 tree-sound table = record {
-    grows = λ met t. reading-grows table t met;
-    holds = λ met t. reading-formed table t met;
-    more = λ m n le t f. formed-more m n 0 le t f
-  }
+  grows = λ met t. reading-grows table t met;
+  holds = λ met t. reading-formed table t met;
+  more = λ m n le t f. formed-more m n 0 le t f;
+}
 
 -- a pair
 pair-sound : (table : List (List ℕ)) → IsSound (read_pair table) IsPairFormed
 pair-sound table = record {
-    grows = λ met p.
+  grows = λ met p.
       omega (arith, (number-below met.names (number_of table p.left.text)).1, (number-below (with_word (number_of table p.left.text) met.names) (number_of table p.right.text)).1);
-    holds = λ met p.
+  holds = λ met p.
       let first = number-below met.names (number_of table p.left.text) in
       let second = number-below (with_word (number_of table p.left.text) met.names) (number_of table p.right.text) in
       record { left = omega (arith, first.0, second.1); right = second.0 };
-    more = λ m n le p f. let l = f.left in let r = f.right in record { left = omega arith; right = omega arith }
-  }
+  more = λ m n le p f. let l = f.left in let r = f.right in record { left = omega arith; right = omega arith };
+}
 
 -- a head with as many places as its goal has variables at their places
 pub record IsPlacedFormed (n : ℕ) (h : PlacedHead) : Type 0 where
@@ -128,28 +128,28 @@ pub record IsPlacedFormed (n : ℕ) (h : PlacedHead) : Type 0 where
 -- a head
 head-sound : (table : List (List ℕ)) → IsSound (read_head table) IsPlacedFormed
 head-sound table = record {
-    grows = λ met h.
+  grows = λ met h.
       let context = read_option (read_variable table) met h.context in
       omega (arith, read_option-grows (read_variable table) (λ n v. v < n) (variable-sound table) met h.context, reading-grows table h.goal context.met);
-    holds = λ met h.
+  holds = λ met h.
       let context = read_option (read_variable table) met h.context in
       let n = length (read_tree table context.met h.goal).met.names in
       record {
         formed = record {
           context = option-more (read_variable table) (λ k v. v < k) (variable-sound table) (length context.met.names) n (reading-grows table h.goal context.met) context.value
-            (read_option-holds (read_variable table) (λ k v. v < k) (variable-sound table) met h.context);
-          goal = reading-formed table h.goal context.met
+              (read_option-holds (read_variable table) (λ k v. v < k) (variable-sound table) met h.context);
+          goal = reading-formed table h.goal context.met;
         };
-        places = simp length-drop (omega (arith, reading-places table h.goal context.met))
+        places = simp length-drop (omega (arith, reading-places table h.goal context.met));
       };
-    more = λ m n le h f. record {
-      formed = record {
-        context = option-more (read_variable table) (λ k v. v < k) (variable-sound table) m n le h.head.context f.formed.context;
-        goal = formed-more m n 0 le h.head.goal f.formed.goal
-      };
-      places = f.places
-    }
-  }
+  more = λ m n le h f. record {
+    formed = record {
+      context = option-more (read_variable table) (λ k v. v < k) (variable-sound table) m n le h.head.context f.formed.context;
+      goal = formed-more m n 0 le h.head.goal f.formed.goal;
+    };
+    places = f.places;
+  };
+}
 
 -- as many places as occurrences, head by head
 var_places-of : (n : ℕ) (hs : List PlacedHead) → All (IsPlacedFormed n) hs
@@ -177,25 +177,25 @@ rule_of-formed table names r =
     let from_removed : length removed.met.names ≤ n = omega arith in
     let from_pairs : length pairs.met.names ≤ n = omega arith in
     let kept_all = all-more (read_head table) IsPlacedFormed (head-sound table) (length kept.met.names) n from_kept kept.value
-          (read_all-holds (read_head table) IsPlacedFormed (head-sound table) nothing_met r.kept) in
+    (read_all-holds (read_head table) IsPlacedFormed (head-sound table) nothing_met r.kept) in
     let removed_all = all-more (read_head table) IsPlacedFormed (head-sound table) (length removed.met.names) n from_removed removed.value
-          (read_all-holds (read_head table) IsPlacedFormed (head-sound table) kept.met r.removed) in
+    (read_all-holds (read_head table) IsPlacedFormed (head-sound table) kept.met r.removed) in
     record {
       heads = All-append (IsHeadFormed n) (map (λ h. h.head) kept.value) (map (λ h. h.head) removed.value)
-        (All-map (IsHeadFormed n) (λ h. h.head) kept.value (λ k d w. (kept_all k d w).formed))
-        (All-map (IsHeadFormed n) (λ h. h.head) removed.value (λ k d w. (removed_all k d w).formed));
+          (All-map (IsHeadFormed n) (λ h. h.head) kept.value (λ k d w. (kept_all k d w).formed))
+          (All-map (IsHeadFormed n) (λ h. h.head) removed.value (λ k d w. (removed_all k d w).formed));
       pairs = all-more (read_pair table) IsPairFormed (pair-sound table) (length pairs.met.names) n from_pairs pairs.value
-        (read_all-holds (read_pair table) IsPairFormed (pair-sound table) removed.met r.pairs);
+          (read_all-holds (read_pair table) IsPairFormed (pair-sound table) removed.met r.pairs);
       tests = all-more (read_tree table) (λ n t. IsFormed n 0 t) (tree-sound table) (length tests.met.names) n le4 tests.value
-        (read_all-holds (read_tree table) (λ n t. IsFormed n 0 t) (tree-sound table) pairs.met r.tests);
+          (read_all-holds (read_tree table) (λ n t. IsFormed n 0 t) (tree-sound table) pairs.met r.tests);
       body = read_option-holds (read_tree table) (λ n t. IsFormed n 0 t) (tree-sound table) tests.met r.body;
       head_places = simp (length-append, length-map) refl;
       var_places =
-        map-append (λ ps. length ps) (map (λ h. h.vars) kept.value) (map (λ h. h.vars) removed.value)
-        ∙ ap (λ ks. ks ++ map (λ ps. length ps) (map (λ h. h.vars) removed.value)) (var_places-of n kept.value kept_all)
-        ∙ ap (λ ks. map (λ t. length (occurrences t)) (map (λ h. h.goal) (map (λ h. h.head) kept.value)) ++ ks) (var_places-of n removed.value removed_all)
-        ∙ sym (map-append (λ t. length (occurrences t)) (map (λ h. h.goal) (map (λ h. h.head) kept.value)) (map (λ h. h.goal) (map (λ h. h.head) removed.value)))
-        ∙ ap (map (λ t. length (occurrences t))) (sym (map-append (λ h. h.goal) (map (λ h. h.head) kept.value) (map (λ h. h.head) removed.value)));
+          map-append (λ ps. length ps) (map (λ h. h.vars) kept.value) (map (λ h. h.vars) removed.value)
+          ∙ ap (λ ks. ks ++ map (λ ps. length ps) (map (λ h. h.vars) removed.value)) (var_places-of n kept.value kept_all)
+          ∙ ap (λ ks. map (λ t. length (occurrences t)) (map (λ h. h.goal) (map (λ h. h.head) kept.value)) ++ ks) (var_places-of n removed.value removed_all)
+          ∙ sym (map-append (λ t. length (occurrences t)) (map (λ h. h.goal) (map (λ h. h.head) kept.value)) (map (λ h. h.goal) (map (λ h. h.head) removed.value)))
+          ∙ ap (map (λ t. length (occurrences t))) (sym (map-append (λ h. h.goal) (map (λ h. h.head) kept.value) (map (λ h. h.head) removed.value)));
       pair_places = simp length-map (sym (length-read_all (read_pair table) removed.met r.pairs));
-      test_places = simp length-map (sym (length-read_all (read_tree table) pairs.met r.tests))
+      test_places = simp length-map (sym (length-read_all (read_tree table) pairs.met r.tests));
     }

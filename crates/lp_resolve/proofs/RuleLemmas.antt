@@ -26,17 +26,17 @@ pub pair-read : (first next : List (List ℕ)) (before met after : Met) (p : Wor
     → ReadsAs read_variable first before p.left left met → Begins first next → ReadsAs read_variable next met p.right right after
     → ReadsAs read_pair next before p (record { left = left; right = right }) after
 pair-read first next before met after p left right l b r = record {
-    is = λ later c.
+  is = λ later c.
       ap (with_left later p) (l.is later (begins-trans b c))
-      ∙ ap (λ (it : Read ℕ). record { value = record { left = left; right = it.value }; met = it.met }) (r.is later c)
-  }
+      ∙ ap (λ (it : Read ℕ). record { value = record { left = left; right = it.value }; met = it.met }) (r.is later c);
+}
 
 -- a head whose context and goal are these
 abbrev placed : RuleHead → (met : Met) → Option ℕ → Read Tree → Read PlacedHead
 placed h met context goal = record {
-    value = record { head = record { context = context; goal = goal.value }; place = first_token h.goal; vars = drop (length met.places) goal.met.places };
-    met = goal.met
-  }
+  value = record { head = record { context = context; goal = goal.value }; place = first_token h.goal; vars = drop (length met.places) goal.met.places };
+  met = goal.met;
+}
 
 -- a head is read from its context and its goal
 pub head-read : (first next : List (List ℕ)) (before met after : Met) (h : RuleHead) (context : Option ℕ) (goal : Tree) (place : Place) (vars : List Place)
@@ -44,12 +44,12 @@ pub head-read : (first next : List (List ℕ)) (before met after : Met) (h : Rul
     → place ≡ first_token h.goal → vars ≡ drop (length met.places) after.places
     → ReadsAs read_head next before h (record { head = record { context = context; goal = goal }; place = place; vars = vars }) after
 head-read first next before met after h context goal place vars x b g at from = record {
-    is = λ later c.
+  is = λ later c.
       ap (λ (it : Read (Option ℕ)). placed h it.met it.value (read_tree later it.met h.goal)) (x.is later (begins-trans b c))
       ∙ ap (placed h met context) (g.is later c)
       ∙ ap (λ (vs : List Place). record { value = record { head = record { context = context; goal = goal }; place = first_token h.goal; vars = vs }; met = after }) (sym from)
-      ∙ ap (λ (q : Place). record { value = record { head = record { context = context; goal = goal }; place = q; vars = vars }; met = after }) (sym at)
-  }
+      ∙ ap (λ (q : Place). record { value = record { head = record { context = context; goal = goal }; place = q; vars = vars }; met = after }) (sym at);
+}
 
 -- a rule's parts, from its body on
 abbrev from_body : List PlacedHead → List PlacedHead → List PairTree → List Tree → Read (Option Tree) → Read RuleParts
@@ -81,7 +81,7 @@ module _ (r : Rule) (t1 t2 t3 t4 t5 : List (List ℕ)) (m0 m1 m2 m3 m4 m5 : Met)
       → ReadsAs (λ t. read_option (read_tree t)) t5 m4 r.body body m5
       → ReadsAs read_parts t5 m0 r (record { kept = kept; removed = removed; pairs = pairs; tests = tests; body = body }) m5
   parts-read kept removed pairs tests body k b2 d b3 p b4 s b5 o = record {
-      is = λ later c.
+    is = λ later c.
         let c4 = begins-trans b5 c in
         let c3 = begins-trans b4 c4 in
         let c2 = begins-trans b3 c3 in
@@ -90,8 +90,8 @@ module _ (r : Rule) (t1 t2 t3 t4 t5 : List (List ℕ)) (m0 m1 m2 m3 m4 m5 : Met)
         ∙ ap (from_removed later r kept) (d.is later c2)
         ∙ ap (from_pairs later r kept removed) (p.is later c3)
         ∙ ap (from_tests later r kept removed pairs) (s.is later c4)
-        ∙ ap (from_body kept removed pairs tests) (o.is later c)
-    }
+        ∙ ap (from_body kept removed pairs tests) (o.is later c);
+  }
 
 -- a rule whose parts and variables were read is the rule of the text
 pub rule_with-read : (later : List (List ℕ)) (names : List Sym) (r : Rule) (start : Met) (parts : RuleParts) (met : Met) → start ≡ nothing_met

@@ -7,6 +7,7 @@ pub mod Occurrences
 pub mod Places
 pub mod Plain
 pub mod Preds
+pub mod ProgramNamed
 pub mod ProgramReading
 pub mod ProgramTexts
 pub mod Queries

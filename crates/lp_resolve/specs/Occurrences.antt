@@ -46,9 +46,9 @@ name_at _ _ = None
 abbrev pub walked_at : Tree-F Front Walked → Walked
 walked_at (Tree-F.Lam body) = record { name = None; places = body.places }
 walked_at (Tree-F.Ap head args) = record {
-    name = name_at head args;
-    places = front_places head (map (λ a. a.name) args) ++ flat_map (λ a. a.places) args
-  }
+  name = name_at head args;
+  places = front_places head (map (λ a. a.name) args) ++ flat_map (λ a. a.places) args;
+}
 
 -- what is known of a tree
 abbrev pub walked : Tree → Walked

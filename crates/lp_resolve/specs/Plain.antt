@@ -55,23 +55,23 @@ plain_pair goals pair = aligned (whole_place pair.left 0 goals) (whole_place pai
 -- the rule; each of its pairs aligns two arguments, where no static rule is broken
 abbrev pub plain_rule : RuleTree → plain.Rule
 plain_rule r = record {
-    names = map (λ c. c.0) r.names;
-    variables = r.vars;
-    kept = map plain_head r.kept;
-    removed = map plain_head r.removed;
-    pairs = filter_map (plain_pair (goals_of r)) r.pairs;
-    tests = map plain_term r.tests;
-    body = option_map plain_term r.body
-  }
+  names = map (λ c. c.0) r.names;
+  variables = r.vars;
+  kept = map plain_head r.kept;
+  removed = map plain_head r.removed;
+  pairs = filter_map (plain_pair (goals_of r)) r.pairs;
+  tests = map plain_term r.tests;
+  body = option_map plain_term r.body;
+}
 
 -- the program over the table of the symbols' texts
 abbrev pub plain_program : (table : List (List ℕ)) → Program → plain.Program
 plain_program table p = record {
-    symbols = table;
-    preds = map plain_pred p.decls;
-    clauses = map plain_clause p.clauses;
-    rules = map plain_rule p.rules
-  }
+  symbols = table;
+  preds = map plain_pred p.decls;
+  clauses = map plain_clause p.clauses;
+  rules = map plain_rule p.rules;
+}
 
 -- a variable of a query
 abbrev pub plain_variable : QueryVar → plain.QueryVar

@@ -71,30 +71,30 @@ read_option read met (Some x) = let it = read met x in record { value = Some it.
 -- a clause whose tree has this head and body; the head has the first of the variables
 abbrev pub clause_with : Clause → (met : Met) → Tree × Option Tree → ClauseTree
 clause_with c met parts = record {
-    vars = length met.names;
-    head = parts.0;
-    body = parts.1;
-    places = record { first = c.place; head = first_token c.term; vars = take (length (occurrences parts.0)) met.places }
-  }
+  vars = length met.names;
+  head = parts.0;
+  body = parts.1;
+  places = record { first = c.place; head = first_token c.term; vars = take (length (occurrences parts.0)) met.places };
+}
 
 -- a rule of these parts, with so many variables
 abbrev pub rule_with : List Sym → Rule → RuleParts → (vars : ℕ) → RuleTree
 rule_with names r parts vars = record {
-    names = names;
-    vars = vars;
-    kept = map (λ h. h.head) parts.kept;
-    removed = map (λ h. h.head) parts.removed;
-    pairs = parts.pairs;
-    tests = parts.tests;
-    body = parts.body;
-    places = record {
-      rule = r.place;
-      heads = map (λ h. h.place) parts.kept ++ map (λ h. h.place) parts.removed;
-      vars = map (λ h. h.vars) parts.kept ++ map (λ h. h.vars) parts.removed;
-      pairs = map (λ p. p.left.place) r.pairs;
-      tests = map first_token r.tests
-    }
-  }
+  names = names;
+  vars = vars;
+  kept = map (λ h. h.head) parts.kept;
+  removed = map (λ h. h.head) parts.removed;
+  pairs = parts.pairs;
+  tests = parts.tests;
+  body = parts.body;
+  places = record {
+    rule = r.place;
+    heads = map (λ h. h.place) parts.kept ++ map (λ h. h.place) parts.removed;
+    vars = map (λ h. h.vars) parts.kept ++ map (λ h. h.vars) parts.removed;
+    pairs = map (λ p. p.left.place) r.pairs;
+    tests = map first_token r.tests;
+  };
+}
 
 module _ (table : List (List ℕ)) where
   -- the symbol of a word
@@ -133,9 +133,9 @@ module _ (table : List (List ℕ)) where
         value = record {
           head = record { context = context.value; goal = goal.value };
           place = first_token h.goal;
-          vars = drop (length context.met.places) goal.met.places
+          vars = drop (length context.met.places) goal.met.places;
         };
-        met = goal.met
+        met = goal.met;
       }
 
   -- a pair
@@ -155,7 +155,7 @@ module _ (table : List (List ℕ)) where
       let body = read_option read_tree tests.met r.body in
       record {
         value = record { kept = kept.value; removed = removed.value; pairs = pairs.value; tests = tests.value; body = body.value };
-        met = body.met
+        met = body.met;
       }
 
   -- a rule of a block with these names

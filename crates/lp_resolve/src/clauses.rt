@@ -7,8 +7,8 @@ ghost use Rattle.lp_resolve.specs.Occurrences.{occurrences};
 ghost use Rattle.lp_resolve.specs.ProgramReading.{is_implication, head_and_body, clause_with, clause_of};
 
 use crate::occurrences::count_variables;
-use crate::program::{ClausePlaces, ClauseTree};
 use crate::parts::read_part;
+use crate::program::{ClausePlaces, ClauseTree};
 use crate::symbols::Symbols;
 use crate::trees::{arity_of, constant_of};
 use crate::variables::Variables;
@@ -117,6 +117,10 @@ fn first_places(
     ensures { IfOk result (λ places. places ≡ take count variables.now.places) }
 {
     let places = variables.places();
-    let count = if count < places.len() { count } else { places.len() };
+    let count = if count < places.len() {
+        count
+    } else {
+        places.len()
+    };
     Ok(Sequence::from_vec(Vec::from_slice(alloc, &places[..count])?))
 }

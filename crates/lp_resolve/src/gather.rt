@@ -69,7 +69,7 @@ fn see_clauses_before(
     ensures within { IfOk result (λ next. next ≤ length clauses.now) }
     ensures seen { IfOk result (λ next. (rest : List ClauseTree → List Sight) →
         fold seen preds.old (with_line line.now rest (drop from clauses.now))
-          ≡ fold seen preds.new (declaration line.now ∷ rest (drop next clauses.now))) }
+        ≡ fold seen preds.new (declaration line.now ∷ rest (drop next clauses.now))) }
 {
     let mut next = from;
     while next < clauses.len() && is_before(clauses[next].places.head, line.place) {

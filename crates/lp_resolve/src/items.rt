@@ -23,11 +23,7 @@ fn read_symbol(word: &Word, symbols: &mut Symbols) -> Result<Sym, AllocError>
 }
 
 // The symbols of words.
-fn read_names(
-    alloc: Global,
-    words: &[Word],
-    symbols: &mut Symbols,
-) -> Result<Vec<Sym>, AllocError>
+fn read_names(alloc: Global, words: &[Word], symbols: &mut Symbols) -> Result<Vec<Sym>, AllocError>
     ensures begins { Begins symbols.old symbols.new }
     ensures table { OnOk result (symbols.new ≡ interned_all symbols.old (map (λ w. w.text) words.now)) }
     ensures names { IfOk result (λ it. (later : List (List ℕ)) → Begins symbols.new later → it.items ≡ map (symbol_of later) words.now) }
@@ -109,7 +105,13 @@ fn read_block(
     ensures rules { OnOk result ((later : List (List ℕ)) → Begins symbols.new later → rules.new ≡ rules.old ++ block_rules later block.now) }
 {
     let names = read_names(alloc, block.names.as_slice(), symbols)?;
-    read_rules(alloc, names.as_slice(), block.rules.as_slice(), symbols, rules)?;
+    read_rules(
+        alloc,
+        names.as_slice(),
+        block.rules.as_slice(),
+        symbols,
+        rules,
+    )?;
     Ok(())
 }
 

@@ -1,9 +1,10 @@
 //! Reads the parser's trees as programs.
-ghost use Rattle.std.specs.Prelude.{◌≡◌, IfOk, OnOk};
+ghost use Rattle.std.specs.Prelude.{◌≡◌, length, IfOk, OnOk};
 ghost use Rattle.lp_resolve.specs.Symbols.{Begins, interned_all};
 ghost use Rattle.lp_resolve.specs.ProgramTexts.{program_texts};
 ghost use Rattle.lp_resolve.specs.ProgramReading.{program_of};
 ghost use Rattle.lp_resolve.specs.WellFormed.{IsWellFormed};
+ghost use Rattle.lp_resolve.specs.ProgramNamed.{IsProgramNamed};
 
 use crate::gather::gather;
 use crate::items::{ItemLists, read_items};
@@ -25,7 +26,9 @@ pub fn resolve_program(
     ensures table { OnOk result (symbols.new ≡ interned_all symbols.old (program_texts ast.now)) }
     ensures program { IfOk result (λ program. program ≡ program_of symbols.new ast.now) }
     ensures well_formed { IfOk result IsWellFormed }
+    ensures named { IfOk result (IsProgramNamed (length symbols.new)) }
 {
+    symbols.begins_reserved();
     let lists = read_items(alloc, ast.as_slice(), symbols)?;
     let ItemLists {
         lines,

@@ -42,7 +42,11 @@ fn places_from(
     ensures { IfOk result (λ places. places ≡ drop from variables.now.places) }
 {
     let places = variables.places();
-    let from = if from < places.len() { from } else { places.len() };
+    let from = if from < places.len() {
+        from
+    } else {
+        places.len()
+    };
     Ok(Sequence::from_vec(Vec::from_slice(alloc, &places[from..])?))
 }
 

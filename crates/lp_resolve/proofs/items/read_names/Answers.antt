@@ -15,14 +15,14 @@ loop-word-preserved c =
     record {
       begins = begins-trans c.loop-word.invariant.begins c.in_ok-name.ensures.begins;
       table =
-        c.in_ok-name.ensures.table
-        ∙ ap (λ t. interned_all t (map (λ w. w.text) last)) c.loop-word.invariant.table
-        ∙ interned_all-more c.args.symbols.now (map (λ w. w.text) done) (map (λ w. w.text) last)
-        ∙ ap (interned_all c.args.symbols.now) (sym (map-append (λ w. w.text) done last) ∙ ap (map (λ w. w.text)) more);
+          c.in_ok-name.ensures.table
+          ∙ ap (λ t. interned_all t (map (λ w. w.text) last)) c.loop-word.invariant.table
+          ∙ interned_all-more c.args.symbols.now (map (λ w. w.text) done) (map (λ w. w.text) last)
+          ∙ ap (interned_all c.args.symbols.now) (sym (map-append (λ w. w.text) done last) ∙ ap (map (λ w. w.text)) more);
       names = have_put-more c.args.words.now c.loop-word.word-index c.word-item.result c.loop-word-test.true c.word-item.is
-        (λ later. map (symbol_of later)) c.loop-word.symbols c.read_symbol.new.symbols [] c.loop-word.names.items c.push.new.self.items
-        (λ later. symbol_of later c.word-item.result ∷ [])
-        (λ later. map-append (symbol_of later) done last)
-        c.loop-word.invariant.names c.in_ok-name.ensures.begins
-        (λ later b. c.in_ok-push.ensures.items ∙ ap (λ s. c.loop-word.names.items ++ s ∷ []) (c.in_ok-name.ensures.symbol later b))
+          (λ later. map (symbol_of later)) c.loop-word.symbols c.read_symbol.new.symbols [] c.loop-word.names.items c.push.new.self.items
+          (λ later. symbol_of later c.word-item.result ∷ [])
+          (λ later. map-append (symbol_of later) done last)
+          c.loop-word.invariant.names c.in_ok-name.ensures.begins
+          (λ later b. c.in_ok-push.ensures.items ∙ ap (λ s. c.loop-word.names.items ++ s ∷ []) (c.in_ok-name.ensures.symbol later b));
     }

@@ -7,5 +7,5 @@ use Rattle.lp_resolve.proofs.items.read_symbol.Goals as goal
 pub returns-clause-symbol : goal.returns-clause-symbol
 returns-clause-symbol c later b =
     symbol-later c.args.symbols.now c.intern.new.self c.args.word.now.text c.in_ok-symbol.symbol
-      (c.in_ok-symbol.ensures.interned ∙ ap (interned c.args.symbols.now) c.as_slice.ensures)
-      (c.in_ok-symbol.ensures.number ∙ ap (number_of c.intern.new.self) c.as_slice.ensures) later b
+    (c.in_ok-symbol.ensures.interned ∙ ap (interned c.args.symbols.now) c.as_slice.ensures)
+    (c.in_ok-symbol.ensures.number ∙ ap (number_of c.intern.new.self) c.as_slice.ensures) later b
