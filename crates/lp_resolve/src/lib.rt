@@ -38,6 +38,4 @@ pub use trees::{arity_of, constant_of};
 pub use variable::Variable;
 
 #[cfg(test)]
-mod program_tests;
-#[cfg(test)]
-mod query_tests;
+mod tests;
