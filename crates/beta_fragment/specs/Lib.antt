@@ -1,3 +1,5 @@
 pub mod Names
 pub mod Body
 pub mod HeadForm
+pub mod Moves
+pub mod Work

@@ -1,14 +1,40 @@
 //! Renaming of names.
+//!
+//! The walk keeps a list of what is still to be done, and one of the nodes that are done, so that
+//! depth is bounded by memory alone. Parts that no renamed level reaches are shared.
 
-ghost use Rattle.std.specs.Prelude.{◌≡◌, ◌≤◌, [], length, IfOk};
+ghost use Rattle.std.specs.Prelude.{◌≡◌, ◌+◌, ◌-◌, List, reverse, ◌<◌, ◌≤◌, ℕ, [], ◌∷◌, ◌++◌, length, map, slice_index, IfOk, OnOk, Some, None, IsSome, vec_len};
+ghost use Rattle.level_terms.specs.Graph.{Graph, node_at, value_in};
+ghost use Rattle.level_terms.specs.Laws.{ArePlaces};
+ghost use Rattle.level_terms.specs.Sound.{IsSound, AllOlder, IsHead};
 ghost use Rattle.level_terms.specs.Valid.{IsValid};
-ghost use Rattle.level_terms.specs.Reading.{read};
+ghost use Rattle.level_terms.specs.Reading.{read, levels};
 ghost use Rattle.level_terms.specs.Growth.{Grows};
-ghost use Rattle.beta_fragment.specs.Names.{names as own_names, renamed, AllBelow, AreDistinct};
+ghost use Rattle.ref_terms.specs.terms.Term as term;
+ghost use Rattle.ref_terms.specs.terms.Term.{Term};
+ghost use Rattle.ref_terms.specs.unification.Spine.{apply_all};
+ghost use Rattle.beta_fragment.specs.Names.{names as own_names, renamed as renamed_by, AllBelow, AreDistinct};
+ghost use Rattle.beta_fragment.specs.Moves.{moved, moved_level, IsMove, value_of, IsAppOf, IsLamOf, IsLevelOf};
+ghost use Rattle.beta_fragment.specs.Work.{State, Steps, visits};
+ghost use Rattle.level_terms.specs.declared.node.TermId.{TermId as Id};
+ghost use Rattle.beta_fragment.specs.declared.renaming.Task.{Task as TaskOf};
+ghost use Rattle.level_terms.specs.declared.node.Node.TheVariants.{Lam as lam_node, App as app_node, Var as var_node, Level as level_node};
+ghost use Rattle.beta_fragment.specs.declared.renaming.Task.TheVariants.{Visit as visit_task};
 
 use crate::answer::Names;
-use level_terms::{Heap, TermId};
+use level_terms::{Heap, Node, TermId, VarId};
 use std::alloc::{AllocError, Global};
+
+/// What is still to be done.
+#[derive(Clone, Copy)]
+enum Task {
+    /// The node with its levels moved: those below `base` are names.
+    Visit { node: TermId, base: usize },
+    /// An abstraction of the node that was done last.
+    Lam { depth: usize },
+    /// An application to so many nodes that were done last, of the one before them.
+    App { args: usize },
+}
 
 /// The term with each level below `from` renamed to the name that the list has for it. Answers
 /// `AllocError` on want of memory alone.
@@ -17,9 +43,171 @@ pub fn lift(alloc: Global, heap: &mut Heap, t: TermId, from: usize, to: usize, n
     requires all { from ≤ length names.now }
     requires below { AllBelow names.now to }
     requires distinct { AreDistinct names.now }
-    ensures reads { IfOk result (λ r. read heap.new r.index own_names ≡ read heap.old t.index (renamed names.now)) }
+    ensures reads { IfOk result (λ r. read heap.new r.index own_names ≡ read heap.old t.index (renamed_by names.now)) }
     ensures valid { IfOk result (λ r. IsValid heap.new r.index to) }
     ensures grows { Grows heap.old heap.new [] [] }
 {
     Err(AllocError)
+}
+
+/// Both lists, one after the other.
+fn joined(alloc: Global, first: &[TermId], more: &[TermId]) -> Result<Vec<TermId>, AllocError>
+    ensures { IfOk result (λ all. all.items ≡ first.now ++ more.now) }
+{
+    let mut all = Vec::new(alloc);
+    all.extend_from_slice(first)?;
+    all.extend_from_slice(more)?;
+    Ok(all)
+}
+
+/// A node that is no application, applied to nodes.
+fn made_app(heap: &mut Heap, head: TermId, args: &[TermId]) -> Result<TermId, AllocError>
+    requires head { head.index < length heap.old.nodes }
+    requires no_application { IsHead (node_at heap.old.nodes head.index) }
+    requires args { AllOlder (length heap.old.nodes) args.now }
+    requires some { 0 < length args.now }
+    ensures app { IfOk result (λ r. IsAppOf (value_of heap.old head) (map (value_of heap.old) args.now) (value_of heap.new r)) }
+    ensures there { IfOk result (λ r. r.index < length heap.new.nodes) }
+    ensures grows { Grows heap.old heap.new [] [] }
+{
+    heap.is_sound();
+    let r = heap.app(head, args)?;
+    heap.is_sound();
+    Ok(r)
+}
+
+/// A node applied to nodes. An application is not the head of another.
+pub(crate) fn applied(alloc: Global, heap: &mut Heap, head: TermId, args: &[TermId]) -> Result<TermId, AllocError>
+    requires head { head.index < length heap.old.nodes }
+    requires args { AllOlder (length heap.old.nodes) args.now }
+    requires some { 0 < length args.now }
+    ensures app { IfOk result (λ r. IsAppOf (value_of heap.old head) (map (value_of heap.old) args.now) (value_of heap.new r)) }
+    ensures there { IfOk result (λ r. r.index < length heap.new.nodes) }
+    ensures grows { Grows heap.old heap.new [] [] }
+{
+    heap.is_sound();
+    if let Node::App { head: inner, args: first } = heap.view(head) {
+        let inner = *inner;
+        let all = joined(alloc, first.as_slice(), args)?;
+        return made_app(heap, inner, all.as_slice());
+    }
+    made_app(heap, head, args)
+}
+
+/// The abstraction of a body at a depth.
+fn made_lam(heap: &mut Heap, depth: usize, body: TermId) -> Result<TermId, AllocError>
+    requires { body.index < length heap.old.nodes }
+    ensures lam { IfOk result (λ r. IsLamOf depth (value_of heap.old body) (value_of heap.new r)) }
+    ensures there { IfOk result (λ r. r.index < length heap.new.nodes) }
+    ensures grows { Grows heap.old heap.new [] [] }
+{
+    heap.is_sound();
+    let r = heap.lam(depth, body)?;
+    heap.is_sound();
+    Ok(r)
+}
+
+/// Where a level goes. Levels are numbered by 64 bits; `AllocError` where they are used up.
+fn level_after(names: &[usize], base: usize, to: usize, level: usize) -> Result<usize, AllocError>
+    requires { base ≤ length names.now }
+    ensures { IfOk result (λ l. l ≡ moved_level names.now base to level) }
+{
+    if level < base {
+        return Ok(names[level]);
+    }
+    (level - base).checked_add(to).ok_or(AllocError)
+}
+
+/// The node of a level.
+fn made_level(heap: &mut Heap, level: usize) -> Result<TermId, AllocError>
+    ensures level { IfOk result (λ r. IsLevelOf level (value_of heap.new r)) }
+    ensures there { IfOk result (λ r. r.index < length heap.new.nodes) }
+    ensures grows { Grows heap.old heap.new [] [] }
+{
+    let r = heap.level(level)?;
+    heap.is_sound();
+    Ok(r)
+}
+
+/// Does a task that visits a level.
+fn visit_level(
+    heap: &mut Heap,
+    names: &[usize],
+    to: usize,
+    node: TermId,
+    base: usize,
+    level: usize,
+    done: &mut Vec<TermId>,
+) -> Result<(), AllocError>
+    requires here { node_at heap.old.nodes node.index ≡ Some (level_node level) }
+    requires base { base ≤ length names.now }
+    requires below { AllBelow names.now to }
+    requires done { AllOlder (length heap.old.nodes) done.old.items }
+    ensures steps { OnOk result ((work : List TaskOf) → Steps names.now to (record { heap = heap.old; work = work ++ visit_task node base ∷ []; done = done.old.items }) (record { heap = heap.new; work = work; done = done.new.items })) }
+    ensures done { OnOk result (AllOlder (length heap.new.nodes) done.new.items) }
+    ensures grows { Grows heap.old heap.new [] [] }
+{
+    heap.is_sound();
+    let new = level_after(names, base, to, level)?;
+    let r = made_level(heap, new)?;
+    done.push(r)?;
+    Ok(())
+}
+
+/// Does a task that visits an abstraction.
+fn visit_lam(
+    heap: &Heap,
+    names: &[usize],
+    to: usize,
+    node: TermId,
+    base: usize,
+    depth: usize,
+    body: TermId,
+    work: &mut Vec<Task>,
+) -> Result<(), AllocError>
+    requires here { node_at heap.now.nodes node.index ≡ Some (lam_node depth body) }
+    requires base { base ≤ length names.now }
+    requires below { AllBelow names.now to }
+    ensures steps { OnOk result ((done : List Id) → Steps names.now to (record { heap = heap.now; work = work.old.items ++ visit_task node base ∷ []; done = done }) (record { heap = heap.now; work = work.new.items; done = done })) }
+{
+    heap.is_sound();
+    let inner = base.min(depth);
+    let depth = (depth - inner).checked_add(to).ok_or(AllocError)?;
+    work.push(Task::Lam { depth })?;
+    work.push(Task::Visit { node: body, base: inner })?;
+    Ok(())
+}
+
+/// Puts visits of nodes onto the work list, the first one last.
+fn push_visits(nodes: &[TermId], base: usize, work: &mut Vec<Task>) -> Result<(), AllocError>
+    ensures { OnOk result (work.new.items ≡ work.old.items ++ reverse (visits base nodes.now)) }
+{
+    let mut i = nodes.len();
+    while i > 0 {
+        i -= 1;
+        work.push(Task::Visit { node: nodes[i], base })?;
+    }
+    Ok(())
+}
+
+/// Does a task that visits an application.
+fn visit_app(
+    heap: &Heap,
+    names: &[usize],
+    to: usize,
+    node: TermId,
+    base: usize,
+    head: TermId,
+    args: &[TermId],
+    work: &mut Vec<Task>,
+) -> Result<(), AllocError>
+    requires here { node_at heap.now.nodes node.index ≡ Some (app_node head args.now) }
+    requires base { base ≤ length names.now }
+    ensures steps { OnOk result ((done : List Id) → Steps names.now to (record { heap = heap.now; work = work.old.items ++ visit_task node base ∷ []; done = done }) (record { heap = heap.now; work = work.new.items; done = done })) }
+{
+    heap.is_sound();
+    work.push(Task::App { args: args.len() })?;
+    push_visits(args, base, work)?;
+    work.push(Task::Visit { node: head, base })?;
+    Ok(())
 }

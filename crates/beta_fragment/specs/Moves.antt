@@ -1,0 +1,56 @@
+-- Levels that are moved: those below a base are names, and those from it on are bound in the term.
+use Rattle.std.specs.Prelude.{◌≡◌, ℕ, ◌+◌, ◌-◌, ◌<◌, ◌≤◌, cond, nat_lt, List, length, slice_index, Bool, true, map, []}
+use Rattle.std.specs.List.{list_all}
+use Rattle.level_terms.specs.declared.node.TermId.{TermId}
+use Rattle.level_terms.specs.Graph.{Graph}
+use Rattle.level_terms.specs.Laws.{ArePlaces}
+use Rattle.level_terms.specs.Valid.{valid, IsValid}
+use Rattle.level_terms.specs.Reading.{read, enter}
+use Rattle.ref_terms.specs.terms.Term.{Term}
+use Rattle.ref_terms.specs.terms.Eta.{lam}
+use Rattle.ref_terms.specs.unification.Spine.{apply_all}
+use Rattle.beta_fragment.specs.Names.{AllBelow}
+
+-- where a level goes: a name to the one that the list has for it, a bound level as far above `to` as it was above the base
+abbrev pub moved_level : List ℕ → (base to : ℕ) → ℕ → ℕ
+moved_level ns base to i = cond (nat_lt i base) (slice_index ns i) (i - base + to)
+
+-- what the levels stand for before they are moved
+abbrev pub moved : List ℕ → (base to : ℕ) → (ℕ → Term) → ℕ → Term
+moved ns base to env i = env (moved_level ns base to i)
+
+-- the names that are given lie below `to`, and those below `fixed` stay
+pub record IsMove (ns : List ℕ) (fixed to : ℕ) : Type 0 where
+  pub below : AllBelow ns to
+  pub few : fixed ≤ length ns
+  pub low : fixed ≤ to
+  pub stay : (i : ℕ) → i < fixed → slice_index ns i ≡ i
+
+-- what is known of a node: what it reads as, and the depths at which it is valid
+pub record Value : Type 0 where
+  pub term : (ℕ → Term) → Term
+  pub holds : ℕ → Bool
+
+-- so of a node of a heap
+abbrev pub value_of : Graph → TermId → Value
+value_of g t = record { term = read g t.index; holds = valid g.nodes g.depths t.index }
+
+-- a node that was valid at a source depth, with its levels moved
+pub record Moves (g : Graph) (ns : List ℕ) (to t base source : ℕ) (x : Value) : Type 0 where
+  pub term : (env : ℕ → Term) → ArePlaces env → x.term env ≡ read g t (moved ns base to env)
+  pub holds : x.holds (source - base + to) ≡ true
+
+-- the abstraction of a body at a depth
+pub record IsLamOf (d : ℕ) (body x : Value) : Type 0 where
+  pub term : (env : ℕ → Term) → ArePlaces env → x.term env ≡ lam (body.term (enter d env))
+  pub holds : body.holds (d + 1) ≡ true → (e : ℕ) → d ≤ e → x.holds e ≡ true
+
+-- the application of a head to arguments
+pub record IsAppOf (head : Value) (args : List Value) (x : Value) : Type 0 where
+  pub term : (env : ℕ → Term) → ArePlaces env → x.term env ≡ apply_all (head.term env) (map (λ y. y.term env) args)
+  pub holds : (e : ℕ) → head.holds e ≡ true → list_all (λ y. y.holds e) args ≡ true → x.holds e ≡ true
+
+-- a level
+pub record IsLevelOf (l : ℕ) (x : Value) : Type 0 where
+  pub term : (env : ℕ → Term) → ArePlaces env → x.term env ≡ env l
+  pub holds : (e : ℕ) → l < e → x.holds e ≡ true
