@@ -1,3 +1,5 @@
 pub mod ReadLemmas
 pub mod EnterLemmas
 pub mod MakeLemmas
+pub mod MoveLemmas
+pub mod WorkLemmas

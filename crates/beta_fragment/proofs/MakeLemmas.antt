@@ -56,7 +56,7 @@ all-hold g e (t ∷ ts) h = both (valid g.nodes g.depths t.index e) _ (and_left 
     both : (a b : Bool) → a ≡ true → b ≡ true → (a && b) ≡ true
     both a b p q = rw (p, q) refl
 
-and_both : (a b : Bool) → a ≡ true → b ≡ true → (a && b) ≡ true
+pub and_both : (a b : Bool) → a ≡ true → b ≡ true → (a && b) ≡ true
 and_both a b p q = rw (p, q) refl
 
 -- an application
@@ -163,3 +163,14 @@ is-head (Var v) h = tt
 
 pub head-other : (g : Graph) (t : ℕ) (n : Node) → node_at g.nodes t ≡ Some n → ((k : TermId) (ts : List TermId) → n ≡ App k ts → ⊥) → IsHead (node_at g.nodes t)
 head-other g t n e h = subst IsHead (sym e) (is-head n h)
+
+-- what was there is there in a heap that grew
+older-more : (m n : ℕ) → m ≤ n → (ts : List TermId) → AllOlder m ts → AllOlder n ts
+older-more m n h [] w = tt
+older-more m n h (t ∷ ts) w = (let k : t.index < m = w.0 in omega (arith, k, h), older-more m n h ts w.1)
+
+pub grown-length : (g h : Graph) → Grows g h [] [] → length g.nodes ≤ length h.nodes
+grown-length g h w = let k = ap length w.nodes ∙ length-append w.new_nodes g.nodes in omega (arith, k)
+
+pub older-grown : (g h : Graph) → Grows g h [] [] → (ts : List TermId) → AllOlder (length g.nodes) ts → AllOlder (length h.nodes) ts
+older-grown g h w ts k = older-more (length g.nodes) (length h.nodes) (grown-length g h w) ts k

@@ -38,7 +38,7 @@ value_of g t = record { term = read g t.index; holds = valid g.nodes g.depths t.
 -- a node that was valid at a source depth, with its levels moved
 pub record Moves (g : Graph) (ns : List ℕ) (to t base source : ℕ) (x : Value) : Type 0 where
   pub term : (env : ℕ → Term) → ArePlaces env → x.term env ≡ read g t (moved ns base to env)
-  pub holds : x.holds (source - base + to) ≡ true
+  pub holds : (e : ℕ) → source - base + to ≤ e → x.holds e ≡ true
 
 -- the abstraction of a body at a depth
 pub record IsLamOf (d : ℕ) (body x : Value) : Type 0 where
