@@ -3,3 +3,5 @@ pub mod EnterLemmas
 pub mod MakeLemmas
 pub mod MoveLemmas
 pub mod WorkLemmas
+pub mod VisitLemmas
+pub mod VarLemmas

@@ -53,13 +53,13 @@ assigned-before g h w v = ap (λ (bs : List Assigned). value_in bs v) (w.assigne
 pub moved-places : (ns : List ℕ) (base to : ℕ) (env : ℕ → Term) → ArePlaces env → ArePlaces (moved ns base to env)
 moved-places ns base to env p i = p (moved_level ns base to i)
 
-below_true : (i b : ℕ) → i < b → nat_lt i b ≡ true
+pub below_true : (i b : ℕ) → i < b → nat_lt i b ≡ true
 below_true i b h = grind (arith, h)
 
 below_false : (i b : ℕ) → b ≤ i → nat_lt i b ≡ false
 below_false i b h = grind (arith, h)
 
-below_from : (i b : ℕ) → nat_lt i b ≡ true → i < b
+pub below_from : (i b : ℕ) → nat_lt i b ≡ true → i < b
 below_from i b h = grind (arith, h)
 
 above_from : (i b : ℕ) → nat_lt i b ≡ false → b ≤ i
@@ -69,7 +69,7 @@ neq_from : (a b : ℕ) → nat_eq a b ≡ false → a ≡ b → ⊥
 neq_from a b e q = let k : nat_eq a b ≡ true = eq-eqb a b q in absurd (let z : true ≡ false = sym k ∙ e in cc)
 
 -- a level below its depth goes below the moved depth
-moved-below : (ns : List ℕ) (base to s l : ℕ) → AllBelow ns to → base ≤ length ns → base ≤ s → l < s → moved_level ns base to l < s - base + to
+pub moved-below : (ns : List ℕ) (base to s l : ℕ) → AllBelow ns to → base ≤ length ns → base ≤ s → l < s → moved_level ns base to l < s - base + to
 moved-below ns base to s l all few low h = go (nat_lt l base) refl
   where
     go : (b : Bool) → nat_lt l base ≡ b → cond b (slice_index ns l) (l - base + to) < s - base + to

@@ -18,6 +18,9 @@ use Rattle.beta_fragment.specs.declared.renaming.Task.TheVariants.{Visit, Lam, A
 use Rattle.beta_fragment.specs.HeadForm.{AllValidAt}
 use Rattle.beta_fragment.specs.Moves.{Value, value_of, Moves, IsLamOf, IsAppOf}
 use Rattle.beta_fragment.specs.Work.{Leads, task_size, work_size, State, IsLeading, Steps, visits}
+use Rattle.beta_fragment.specs.Names.{AllBelow}
+use Rattle.beta_fragment.proofs.ReadLemmas.{valid-below}
+use Rattle.beta_fragment.proofs.EnterLemmas.{body-valid}
 use Rattle.beta_fragment.proofs.MakeLemmas.{values-kept}
 use Rattle.beta_fragment.proofs.MoveLemmas.{AllMove, lam-moves, app-moves, app-valid}
 
@@ -157,3 +160,36 @@ moved-length g ns to b s [] [] w = refl
 moved-length g ns to b s (t ∷ ts) [] w = absurd w
 moved-length g ns to b s [] (x ∷ xs) w = absurd w
 moved-length g ns to b s (t ∷ ts) (x ∷ xs) w = ap suc (moved-length g ns to b s ts xs w.1)
+
+module _ (ns : List ℕ) (to : ℕ) where
+
+  -- a visit of an abstraction
+  pub lam-leads : (g : Graph) (t base source : ℕ) (node body : TermId) (b d : ℕ) (k : List Task) (xs : List Value) → IsSound g → AllBelow ns to → (node.index < length g.nodes → node_at g.nodes node.index ≡ Some (lam_node d body)) →
+      Leads g ns to t base source (Visit node b ∷ k) xs → Leads g ns to t base source (Visit body (min b d) ∷ Lam (d - min b d + to) ∷ k) xs
+  lam-leads g t base source node body b d k xs sg all here h =
+      let e = here (valid-below g node.index h.0 h.1) in
+      let low = h.3 in
+      (suc d, body-valid g sg node.index d body h.0 e h.1, omega arith, omega (arith, low),
+        λ y m. (xs, y, refl, λ x w. h.4 x (lam-moves g ns to node.index b h.0 d body y x sg all e h.1 h.2 h.3 m w)))
+
+  pub lam-falls : (g : Graph) (node body : TermId) (b d : ℕ) → IsSound g → node_at g.nodes node.index ≡ Some (lam_node d body) → work_size g (Visit body (min b d) ∷ Lam (d - min b d + to) ∷ []) < 2 * tree_size (tree g node.index)
+  lam-falls g node body b d sg e = let less = lam-size g node.index d body sg e in omega (arith, less)
+
+  -- a visit of an application
+  pub app-leads : (g : Graph) (t base source : ℕ) (node head : TermId) (args : List TermId) (b : ℕ) (k : List Task) (xs : List Value) → IsSound g → (node.index < length g.nodes → node_at g.nodes node.index ≡ Some (app_node head args)) →
+      Leads g ns to t base source (Visit node b ∷ k) xs → Leads g ns to t base source ((Visit head b ∷ (visits b args ++ App (length args) ∷ [])) ++ k) xs
+  app-leads g t base source node head args b k xs sg here h =
+      let e = here (valid-below g node.index h.0 h.1) in
+      let parts = app-valid g node.index h.0 head args sg e h.1 in
+      (h.0, parts.0, h.2, h.3, λ y m.
+        subst (λ js. Leads g ns to t base source js (xs ++ y ∷ [])) (sym (append_assoc (visits b args) (App (length args) ∷ []) k))
+        (visits-lead ns to g t base source b h.0 (App (length args) ∷ k) h.2 h.3 args (xs ++ y ∷ []) parts.1
+          (λ more w. (xs, y, more, append_assoc xs (y ∷ []) more, moved-length g ns to b h.0 args more w,
+            λ x a. h.4 x (app-moves g ns to node.index b h.0 head args y x more sg e m w a)))))
+
+  pub app-falls : (g : Graph) (node head : TermId) (args : List TermId) (b : ℕ) → IsSound g → node_at g.nodes node.index ≡ Some (app_node head args) → work_size g (Visit head b ∷ (visits b args ++ App (length args) ∷ [])) < 2 * tree_size (tree g node.index)
+  app-falls g node head args b sg e =
+      let less = app-size g node.index head args sg e in
+      let more = work-append g (visits b args) (App (length args) ∷ []) in
+      let each = visits-size g b args in
+      omega (arith, less, more, each)

@@ -1,12 +1,12 @@
 -- Levels that are moved: those below a base are names, and those from it on are bound in the term.
-use Rattle.std.specs.Prelude.{◌≡◌, ℕ, ◌+◌, ◌-◌, ◌<◌, ◌≤◌, cond, nat_lt, List, length, slice_index, Bool, true, map, []}
+use Rattle.std.specs.Prelude.{◌≡◌, ℕ, ◌+◌, ◌-◌, ◌<◌, ◌≤◌, cond, nat_lt, List, length, slice_index, Bool, true, map, [], ◌∷◌, suc}
 use Rattle.std.specs.List.{list_all}
 use Rattle.level_terms.specs.declared.node.TermId.{TermId}
 use Rattle.level_terms.specs.Graph.{Graph}
 use Rattle.level_terms.specs.Laws.{ArePlaces}
 use Rattle.level_terms.specs.Valid.{valid, IsValid}
-use Rattle.level_terms.specs.Reading.{read, enter}
-use Rattle.ref_terms.specs.terms.Term.{Term}
+use Rattle.level_terms.specs.Reading.{read, enter, levels}
+use Rattle.ref_terms.specs.terms.Term.{Term, At, Var}
 use Rattle.ref_terms.specs.terms.Eta.{lam}
 use Rattle.ref_terms.specs.unification.Spine.{apply_all}
 use Rattle.beta_fragment.specs.Names.{AllBelow}
@@ -54,3 +54,18 @@ pub record IsAppOf (head : Value) (args : List Value) (x : Value) : Type 0 where
 pub record IsLevelOf (l : ℕ) (x : Value) : Type 0 where
   pub term : (env : ℕ → Term) → ArePlaces env → x.term env ≡ env l
   pub holds : (e : ℕ) → l < e → x.holds e ≡ true
+
+-- a variable that has no value, applied to the levels below a depth
+pub record IsVarOf (v depth : ℕ) (x : Value) : Type 0 where
+  pub term : (env : ℕ → Term) → ArePlaces env → x.term env ≡ apply_all (At (Var v)) (levels depth env)
+  pub holds : (e : ℕ) → depth ≤ e → x.holds e ≡ true
+
+-- levels from k on, moved
+abbrev pub AreLevelsOf : List ℕ → (base to k : ℕ) → List Value → Type 0
+AreLevelsOf ns base to k [] = Unit {0}
+AreLevelsOf ns base to k (x ∷ xs) = IsLevelOf (moved_level ns base to k) x × AreLevelsOf ns base to (suc k) xs
+
+-- a variable that has no value, applied to the levels below its depth, moved
+pub record IsMovedVar (ns : List ℕ) (base to v depth : ℕ) (x : Value) : Type 0 where
+  pub term : (env : ℕ → Term) → ArePlaces env → x.term env ≡ apply_all (At (Var v)) (levels depth (moved ns base to env))
+  pub holds : (e : ℕ) → ((i : ℕ) → i < depth → moved_level ns base to i < e) → x.holds e ≡ true

@@ -14,7 +14,7 @@ ghost use Rattle.ref_terms.specs.terms.Term as term;
 ghost use Rattle.ref_terms.specs.terms.Term.{Term};
 ghost use Rattle.ref_terms.specs.unification.Spine.{apply_all};
 ghost use Rattle.beta_fragment.specs.Names.{names as own_names, renamed as renamed_by, AllBelow, AreDistinct};
-ghost use Rattle.beta_fragment.specs.Moves.{moved, moved_level, IsMove, value_of, IsAppOf, IsLamOf, IsLevelOf};
+ghost use Rattle.beta_fragment.specs.Moves.{moved, moved_level, IsMove, value_of, IsAppOf, IsLamOf, IsLevelOf, IsVarOf, AreLevelsOf, IsMovedVar};
 ghost use Rattle.beta_fragment.specs.Work.{State, Steps, visits};
 ghost use Rattle.level_terms.specs.declared.node.TermId.{TermId as Id};
 ghost use Rattle.beta_fragment.specs.declared.renaming.Task.{Task as TaskOf};
@@ -98,6 +98,7 @@ pub(crate) fn applied(alloc: Global, heap: &mut Heap, head: TermId, args: &[Term
 fn made_lam(heap: &mut Heap, depth: usize, body: TermId) -> Result<TermId, AllocError>
     requires { body.index < length heap.old.nodes }
     ensures lam { IfOk result (λ r. IsLamOf depth (value_of heap.old body) (value_of heap.new r)) }
+    ensures head { IfOk result (λ r. IsHead (node_at heap.new.nodes r.index)) }
     ensures there { IfOk result (λ r. r.index < length heap.new.nodes) }
     ensures grows { Grows heap.old heap.new [] [] }
 {
@@ -115,7 +116,14 @@ fn level_after(names: &[usize], base: usize, to: usize, level: usize) -> Result<
     if level < base {
         return Ok(names[level]);
     }
-    (level - base).checked_add(to).ok_or(AllocError)
+    sum_of(level - base, to)
+}
+
+/// The sum, or `AllocError` past 64 bits.
+fn sum_of(a: usize, b: usize) -> Result<usize, AllocError>
+    ensures { IfOk result (λ n. n ≡ a + b) }
+{
+    a.checked_add(b).ok_or(AllocError)
 }
 
 /// The node of a level.
@@ -172,8 +180,8 @@ fn visit_lam(
 {
     heap.is_sound();
     let inner = base.min(depth);
-    let depth = (depth - inner).checked_add(to).ok_or(AllocError)?;
-    work.push(Task::Lam { depth })?;
+    let raised = sum_of(depth - inner, to)?;
+    work.push(Task::Lam { depth: raised })?;
     work.push(Task::Visit { node: body, base: inner })?;
     Ok(())
 }
@@ -209,5 +217,143 @@ fn visit_app(
     work.push(Task::App { args: args.len() })?;
     push_visits(args, base, work)?;
     work.push(Task::Visit { node: head, base })?;
+    Ok(())
+}
+
+/// The node of a variable that has no value, abstracted over the levels below its depth: it reads
+/// as the variable without arguments.
+fn bare_var(heap: &mut Heap, v: VarId) -> Result<TermId, AllocError>
+    requires known { v.index < length heap.old.depths }
+    requires free { value_in heap.old.assigned v.index ≡ None }
+    ensures open { IfOk result (λ r. IsVarOf v.index 0 (value_of heap.new r)) }
+    ensures head { IfOk result (λ r. IsHead (node_at heap.new.nodes r.index)) }
+    ensures there { IfOk result (λ r. r.index < length heap.new.nodes) }
+    ensures grows { Grows heap.old heap.new [] [] }
+{
+    let mut depth = heap.var_depth(v);
+    let mut node = made_var(heap, v)?;
+    while depth > 0 {
+        depth -= 1;
+        node = made_lam(heap, depth, node)?;
+    }
+    Ok(node)
+}
+
+/// The node of a variable that has no value.
+fn made_var(heap: &mut Heap, v: VarId) -> Result<TermId, AllocError>
+    requires known { v.index < length heap.old.depths }
+    requires free { value_in heap.old.assigned v.index ≡ None }
+    ensures open { IfOk result (λ r. IsVarOf v.index (slice_index heap.old.depths v.index) (value_of heap.new r)) }
+    ensures head { IfOk result (λ r. IsHead (node_at heap.new.nodes r.index)) }
+    ensures there { IfOk result (λ r. r.index < length heap.new.nodes) }
+    ensures grows { Grows heap.old heap.new [] [] }
+{
+    let r = heap.var(v)?;
+    heap.is_sound();
+    Ok(r)
+}
+
+/// The nodes of the levels below a depth, moved.
+fn moved_levels(
+    alloc: Global,
+    heap: &mut Heap,
+    names: &[usize],
+    base: usize,
+    to: usize,
+    depth: usize,
+) -> Result<Vec<TermId>, AllocError>
+    requires { base ≤ length names.now }
+    ensures levels { IfOk result (λ args. AreLevelsOf names.now base to 0 (map (value_of heap.new) args.items)) }
+    ensures count { IfOk result (λ args. length args.items ≡ depth) }
+    ensures there { IfOk result (λ args. AllOlder (length heap.new.nodes) args.items) }
+    ensures grows { Grows heap.old heap.new [] [] }
+{
+    let mut args = Vec::new(alloc);
+    for level in 0..depth {
+        heap.is_sound();
+        let new = level_after(names, base, to, level)?;
+        let r = made_level(heap, new)?;
+        args.push(r)?;
+    }
+    Ok(args)
+}
+
+/// A variable that has no value, applied to the levels below its depth, moved.
+fn moved_var(alloc: Global, heap: &mut Heap, names: &[usize], base: usize, to: usize, v: VarId) -> Result<TermId, AllocError>
+    requires base { base ≤ length names.now }
+    requires known { v.index < length heap.old.depths }
+    requires free { value_in heap.old.assigned v.index ≡ None }
+    requires deep { 0 < slice_index heap.old.depths v.index }
+    ensures moved { IfOk result (λ r. IsMovedVar names.now base to v.index (slice_index heap.old.depths v.index) (value_of heap.new r)) }
+    ensures there { IfOk result (λ r. r.index < length heap.new.nodes) }
+    ensures grows { Grows heap.old heap.new [] [] }
+{
+    let depth = heap.var_depth(v);
+    heap.is_sound();
+    let head = bare_var(heap, v)?;
+    heap.is_sound();
+    let args = moved_levels(alloc, heap, names, base, to, depth)?;
+    made_app(heap, head, args.as_slice())
+}
+
+/// Does a task that visits a node without moved levels: one that is valid at a depth below which
+/// levels stay.
+fn visit_kept(
+    heap: &Heap,
+    names: &[usize],
+    fixed: usize,
+    to: usize,
+    node: TermId,
+    base: usize,
+    depth: usize,
+    done: &mut Vec<TermId>,
+) -> Result<(), AllocError>
+    requires moves { IsMove names.now fixed to }
+    requires fixed { depth ≤ fixed }
+    requires base { depth ≤ base }
+    requires valid { (s : ℕ) → IsValid heap.now node.index s → IsValid heap.now node.index depth }
+    requires there { node.index < length heap.now.nodes }
+    requires done { AllOlder (length heap.now.nodes) done.old.items }
+    ensures steps { OnOk result ((work : List TaskOf) → Steps names.now to (record { heap = heap.now; work = work ++ visit_task node base ∷ []; done = done.old.items }) (record { heap = heap.now; work = work; done = done.new.items })) }
+    ensures done { OnOk result (AllOlder (length heap.now.nodes) done.new.items) }
+{
+    heap.is_sound();
+    done.push(node)?;
+    Ok(())
+}
+
+/// Does a task that visits a variable with moved levels.
+fn visit_var(
+    alloc: Global,
+    heap: &mut Heap,
+    names: &[usize],
+    to: usize,
+    node: TermId,
+    base: usize,
+    v: VarId,
+    work: &mut Vec<Task>,
+    done: &mut Vec<TermId>,
+) -> Result<(), AllocError>
+    requires here { node_at heap.old.nodes node.index ≡ Some (var_node v) }
+    requires known { v.index < length heap.old.depths }
+    requires deep { 0 < slice_index heap.old.depths v.index }
+    requires base { base ≤ length names.now }
+    requires below { AllBelow names.now to }
+    requires done { AllOlder (length heap.old.nodes) done.old.items }
+    ensures steps { OnOk result (Steps names.now to (record { heap = heap.old; work = work.old.items ++ visit_task node base ∷ []; done = done.old.items }) (record { heap = heap.new; work = work.new.items; done = done.new.items })) }
+    ensures done { OnOk result (AllOlder (length heap.new.nodes) done.new.items) }
+    ensures grows { Grows heap.old heap.new [] [] }
+{
+    heap.is_sound();
+    if let Some(value) = heap.value(v) {
+        let depth = heap.var_depth(v);
+        work.push(Task::Visit {
+            node: value,
+            base: base.min(depth),
+        })?;
+        return Ok(());
+    }
+    let r = moved_var(alloc, heap, names, base, to, v)?;
+    done.push(r)?;
     Ok(())
 }
