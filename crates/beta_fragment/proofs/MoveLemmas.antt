@@ -42,6 +42,9 @@ node_at-older (n ∷ new) nodes t h =
 pub node-before : (g h : Graph) → Grows g h [] [] → (t : ℕ) (n : Node) → t < length g.nodes → node_at h.nodes t ≡ Some n → node_at g.nodes t ≡ Some n
 node-before g h w t n k e = sym (ap (λ (ns : List Node). node_at ns t) w.nodes ∙ node_at-older w.new_nodes g.nodes t k) ∙ e
 
+pub node-after : (g h : Graph) → Grows g h [] [] → (t : ℕ) → t < length g.nodes → node_at h.nodes t ≡ node_at g.nodes t
+node-after g h w t k = ap (λ (ns : List Node). node_at ns t) w.nodes ∙ node_at-older w.new_nodes g.nodes t k
+
 none-new : (bs : List Assigned) → ◌≡◌ {A = List Change} [] ([] ++ changes_of bs) → bs ≡ []
 none-new [] e = refl
 none-new (b ∷ bs) e = absurd (let k : 0 ≡ suc (length bs) = ap length e ∙ changes-length (b ∷ bs) in omega (arith, k))

@@ -1,5 +1,5 @@
 -- Variables that have no value.
-use Rattle.std.proofs.Common.{◌≡◌, ℕ, zero, suc, ◌<◌, ◌≤◌, ◌+◌, ◌-◌, ◌++◌, List, [], ◌∷◌, length, map, cond, nat_eq, nat_lt, Bool, true, false, Option, Some, None, slice_index, refl, sym, ap, ap₂, ◌∙◌, arith, subst, ne_eqb, eq-eqb}
+use Rattle.std.proofs.Common.{◌≡◌, ℕ, zero, suc, ◌<◌, ◌≤◌, ◌+◌, ◌-◌, ◌*◌, min, ◌++◌, List, [], ◌∷◌, length, map, cond, nat_eq, nat_lt, Bool, true, false, Option, Some, None, slice_index, refl, sym, ap, ap₂, ◌∙◌, arith, subst, ne_eqb, eq-eqb}
 use Rattle.std.specs.List.{list_all}
 use mathlib.Core.Path.{fun_ext}
 use Rattle.level_terms.specs.declared.node.Node.{Node}
@@ -8,11 +8,18 @@ use Rattle.level_terms.specs.declared.node.TermId.{TermId}
 use Rattle.level_terms.specs.declared.node.VarId.{VarId}
 use Rattle.level_terms.specs.Graph.{Graph, Assigned, node_at, value_in}
 use Rattle.level_terms.specs.Laws.{IsPlace, ArePlaces}
-use Rattle.level_terms.specs.Sound.{IsSound}
+use Rattle.level_terms.specs.Sound.{IsSound, IsMade, AllMade}
+use Rattle.level_terms.specs.Growth.{Grows}
+use Rattle.level_terms.specs.Reached.{tree, tree_size}
+use Rattle.level_terms.proofs.TreeLemmas.{value_below}
+use Rattle.std.proofs.Math.ListN.{get_or-append}
+use Rattle.beta_fragment.specs.declared.renaming.Task.{Task}
+use Rattle.beta_fragment.specs.declared.renaming.Task.TheVariants.{Visit}
+use Rattle.beta_fragment.specs.Work.{Leads, work_size}
 use Rattle.level_terms.specs.Valid.{IsValid}
 use Rattle.level_terms.specs.Reading.{read, enter, levels, variable_reads}
 use Rattle.level_terms.proofs.CoverLemmas.{places-enter}
-use Rattle.level_terms.proofs.NodeLemmas.{nodes_read}
+use Rattle.level_terms.proofs.NodeLemmas.{nodes_read, value-valid}
 use Rattle.level_terms.proofs.ValidLemmas.{nodes_valid}
 use Rattle.ref_terms.specs.terms.Term as term
 use Rattle.ref_terms.specs.terms.Term.{Term, At}
@@ -26,7 +33,8 @@ use Rattle.ref_terms.specs.lemmas.ComposeLemmas.{ren-apply, lam-apply}
 use Rattle.beta_fragment.specs.Names.{AllBelow}
 use Rattle.beta_fragment.specs.Moves.{Value, value_of, Moves, IsLamOf, IsAppOf, IsLevelOf, IsVarOf, AreLevelsOf, IsMovedVar, moved, moved_level}
 use Rattle.beta_fragment.proofs.MakeLemmas.{newest, and_both}
-use Rattle.beta_fragment.proofs.MoveLemmas.{below_true, below_from, moved-places, moved-below}
+use Rattle.beta_fragment.proofs.MoveLemmas.{below_true, below_from, moved-places, moved-below, node-before, assigned-before, value-moves}
+use Rattle.beta_fragment.proofs.ReadLemmas.{valid-below}
 
 -- the node of a variable
 pub var-made : (g h : Graph) (v : VarId) (r : TermId) → IsSound h → r.index ≡ length g.nodes → h ≡ record g { nodes = Var v ∷ g.nodes } → value_in g.assigned v.index ≡ None → IsVarOf v.index (slice_index g.depths v.index) (value_of h r)
@@ -127,3 +135,39 @@ var-moves g ns to t base s v x sound all e free valid low few m = record {
     let deep : slice_index g.depths v.index < suc s = below_from (slice_index g.depths v.index) (suc s) (sym (nodes_valid g t (Var v) s sound e) ∙ valid) in
     m.holds f (λ i k. let lt : moved_level ns base to i < s - base + to = moved-below ns base to s i all few low (omega (arith, k, deep)) in omega (arith, lt, q));
 }
+
+-- a variable's node has a variable that is there
+var-known-in : (variables : ℕ) (t : ℕ) (v : VarId) (nodes : List Node) → AllMade variables nodes → node_at nodes t ≡ Some (Var v) → v.index < variables
+var-known-in variables t v [] m q = absurd (let z : None ≡ Some (Var v) = q in cc)
+var-known-in variables t v (n ∷ older) m q = at (nat_eq (length older) t) q (λ z. var-known-in variables t v older m.1 z)
+  where
+    at : (b : Bool) → cond b (Some n) (node_at older t) ≡ Some (Var v) → (node_at older t ≡ Some (Var v) → v.index < variables) → v.index < variables
+    at true z f = let same : n ≡ Var v = cc in subst (IsMade older variables) same m.0
+    at false z f = f z
+
+pub var-known : (g : Graph) (t : ℕ) (v : VarId) → IsSound g → node_at g.nodes t ≡ Some (Var v) → v.index < length g.depths
+var-known g t v s e = var-known-in (length g.depths) t v g.nodes s.made e
+
+pub depth-before : (g h : Graph) → Grows g h [] [] → (v : ℕ) → v < length g.depths → slice_index h.depths v ≡ slice_index g.depths v
+depth-before g h w v k = ap (λ (ds : List ℕ). slice_index ds v) w.depths ∙ get_or-append g.depths w.new_depths 0 v k
+
+-- a visit of a variable that has a value
+module _ (ns : List ℕ) (to : ℕ) where
+  pub value-leads : (g h : Graph) (t base source : ℕ) (node value : TermId) (v : VarId) (b : ℕ) (k : List Task) (xs : List Value) → IsSound g → Grows g h [] [] → node_at h.nodes node.index ≡ Some (Var v) → value_in h.assigned v.index ≡ Some value.index →
+      Leads g ns to t base source (Visit node b ∷ k) xs → Leads g ns to t base source (Visit value (min b (slice_index h.depths v.index)) ∷ k) xs
+  value-leads g h t base source node value v b k xs sg gr e f l =
+      let here = node-before g h gr node.index (Var v) (valid-below g node.index l.0 l.1) e in
+      let known = var-known g node.index v sg here in
+      let has = sym (assigned-before g h gr v.index) ∙ f in
+      let deep = value-valid g.nodes g.depths g.assigned sg.valid v.index value.index has in
+      let few = l.3 in
+      subst (λ d. Leads g ns to t base source (Visit value (min b d) ∷ k) xs) (sym (depth-before g h gr v.index known))
+      (slice_index g.depths v.index, deep, omega arith, omega (arith, few),
+        λ x m. l.4 x (value-moves g ns to node.index b l.0 value.index v x sg here has l.1 l.2 l.3 m))
+
+pub value-falls : (g h : Graph) (node value : TermId) (v : VarId) (b : ℕ) → IsSound g → Grows g h [] [] → node.index < length g.nodes → node_at h.nodes node.index ≡ Some (Var v) → value_in h.assigned v.index ≡ Some value.index →
+    work_size g (Visit value b ∷ []) < 2 * tree_size (tree g node.index)
+value-falls g h node value v b sg gr below e f =
+    let here = node-before g h gr node.index (Var v) below e in
+    let less = value_below g sg node.index v.index value.index v refl here (sym (assigned-before g h gr v.index) ∙ f) in
+    omega (arith, less)

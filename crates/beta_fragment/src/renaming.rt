@@ -19,7 +19,7 @@ ghost use Rattle.beta_fragment.specs.Work.{State, Steps, visits};
 ghost use Rattle.level_terms.specs.declared.node.TermId.{TermId as Id};
 ghost use Rattle.beta_fragment.specs.declared.renaming.Task.{Task as TaskOf};
 ghost use Rattle.level_terms.specs.declared.node.Node.TheVariants.{Lam as lam_node, App as app_node, Var as var_node, Level as level_node};
-ghost use Rattle.beta_fragment.specs.declared.renaming.Task.TheVariants.{Visit as visit_task};
+ghost use Rattle.beta_fragment.specs.declared.renaming.Task.TheVariants.{Visit as visit_task, Lam as lam_task, App as app_task};
 
 use crate::answer::Names;
 use level_terms::{Heap, Node, TermId, VarId};
@@ -354,6 +354,93 @@ fn visit_var(
         return Ok(());
     }
     let r = moved_var(alloc, heap, names, base, to, v)?;
+    done.push(r)?;
+    Ok(())
+}
+
+/// Does a task that visits a node.
+fn visit(
+    alloc: Global,
+    heap: &mut Heap,
+    names: &[usize],
+    fixed: usize,
+    to: usize,
+    node: TermId,
+    base: usize,
+    work: &mut Vec<Task>,
+    done: &mut Vec<TermId>,
+) -> Result<(), AllocError>
+    requires moves { IsMove names.now fixed to }
+    requires there { node.index < length heap.old.nodes }
+    requires base { base ≤ length names.now }
+    requires done { AllOlder (length heap.old.nodes) done.old.items }
+    ensures steps { OnOk result (Steps names.now to (record { heap = heap.old; work = work.old.items ++ visit_task node base ∷ []; done = done.old.items }) (record { heap = heap.new; work = work.new.items; done = done.new.items })) }
+    ensures done { OnOk result (AllOlder (length heap.new.nodes) done.new.items) }
+    ensures grows { Grows heap.old heap.new [] [] }
+{
+    heap.is_sound();
+    let stays = fixed.min(base);
+    match heap.view(node) {
+        Node::Level(level) => {
+            let level = *level;
+            visit_level(heap, names, to, node, base, level, done)
+        }
+        Node::Lam { depth, body } => {
+            let depth = *depth;
+            let body = *body;
+            if depth <= stays {
+                return visit_kept(heap, names, fixed, to, node, base, depth, done);
+            }
+            visit_lam(heap, names, to, node, base, depth, body, work)
+        }
+        Node::App { head, args } => visit_app(heap, names, to, node, base, *head, args.as_slice(), work),
+        Node::Var(v) => {
+            let v = *v;
+            let depth = heap.var_depth(v);
+            if depth <= stays {
+                return visit_kept(heap, names, fixed, to, node, base, depth, done);
+            }
+            visit_var(alloc, heap, names, to, node, base, v, work, done)
+        }
+        _ => visit_kept(heap, names, fixed, to, node, base, 0, done),
+    }
+}
+
+/// Does a task that makes an abstraction.
+fn make_lam(heap: &mut Heap, depth: usize, done: &mut Vec<TermId>) -> Result<(), AllocError>
+    requires some { 0 < length done.old.items }
+    requires done { AllOlder (length heap.old.nodes) done.old.items }
+    ensures steps { OnOk result ((ns : List ℕ) (to : ℕ) (work : List TaskOf) → Steps ns to (record { heap = heap.old; work = work ++ lam_task depth ∷ []; done = done.old.items }) (record { heap = heap.new; work = work; done = done.new.items })) }
+    ensures done { OnOk result (AllOlder (length heap.new.nodes) done.new.items) }
+    ensures grows { Grows heap.old heap.new [] [] }
+{
+    heap.is_sound();
+    match done.pop() {
+        Some(body) => {
+            let r = made_lam(heap, depth, body)?;
+            done.push(r)?;
+            Ok(())
+        }
+        None => unreachable!(),
+    }
+}
+
+/// Does a task that makes an application.
+fn make_app(alloc: Global, heap: &mut Heap, args: usize, done: &mut Vec<TermId>) -> Result<(), AllocError>
+    requires some { args < length done.old.items }
+    requires done { AllOlder (length heap.old.nodes) done.old.items }
+    ensures steps { OnOk result ((ns : List ℕ) (to : ℕ) (work : List TaskOf) → Steps ns to (record { heap = heap.old; work = work ++ app_task args ∷ []; done = done.old.items }) (record { heap = heap.new; work = work; done = done.new.items })) }
+    ensures done { OnOk result (AllOlder (length heap.new.nodes) done.new.items) }
+    ensures grows { Grows heap.old heap.new [] [] }
+{
+    heap.is_sound();
+    let at = done.len() - args;
+    if args == 0 {
+        return Ok(());
+    }
+    let head = done[at - 1];
+    let r = applied(alloc, heap, head, &done[at..])?;
+    done.truncate(at - 1);
     done.push(r)?;
     Ok(())
 }
