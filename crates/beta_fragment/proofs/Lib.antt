@@ -5,3 +5,4 @@ pub mod MoveLemmas
 pub mod WorkLemmas
 pub mod VisitLemmas
 pub mod VarLemmas
+pub mod StayLemmas

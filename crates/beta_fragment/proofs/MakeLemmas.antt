@@ -174,3 +174,14 @@ grown-length g h w = let k = ap length w.nodes ∙ length-append w.new_nodes g.n
 
 pub older-grown : (g h : Graph) → Grows g h [] [] → (ts : List TermId) → AllOlder (length g.nodes) ts → AllOlder (length h.nodes) ts
 older-grown g h w ts k = older-more (length g.nodes) (length h.nodes) (grown-length g h w) ts k
+
+pub older-front : (m : ℕ) (xs ys : List TermId) → AllOlder m (xs ++ ys) → AllOlder m xs
+older-front m [] ys w = tt
+older-front m (x ∷ xs) ys w = (w.0, older-front m xs ys w.1)
+
+pub older-back : (m : ℕ) (xs ys : List TermId) → AllOlder m (xs ++ ys) → AllOlder m ys
+older-back m [] ys w = w
+older-back m (x ∷ xs) ys w = older-back m xs ys w.1
+
+pub older-last : (m : ℕ) (xs : List TermId) (y : TermId) → AllOlder m (xs ++ y ∷ []) → y.index < m
+older-last m xs y w = (older-back m xs (y ∷ []) w).0

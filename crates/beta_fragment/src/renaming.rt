@@ -402,7 +402,9 @@ fn visit(
             }
             visit_var(alloc, heap, names, to, node, base, v, work, done)
         }
-        _ => visit_kept(heap, names, fixed, to, node, base, 0, done),
+        Node::Con(_) => visit_kept(heap, names, fixed, to, node, base, 0, done),
+        Node::Int(_) => visit_kept(heap, names, fixed, to, node, base, 0, done),
+        Node::Str(_) => visit_kept(heap, names, fixed, to, node, base, 0, done),
     }
 }
 
