@@ -6,3 +6,4 @@ pub mod WorkLemmas
 pub mod VisitLemmas
 pub mod VarLemmas
 pub mod StayLemmas
+pub mod SplitLemmas

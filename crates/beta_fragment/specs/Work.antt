@@ -48,3 +48,9 @@ pub record Steps (ns : List ℕ) (to : ℕ) (old new : State) : Type 0 where
 abbrev pub visits : ℕ → List TermId → List Task
 visits base [] = []
 visits base (t ∷ ts) = Visit t base ∷ visits base ts
+
+-- the task can be done: its node is there, and so are the nodes that are done
+abbrev pub IsReady : List ℕ → (nodes done : ℕ) → Task → Type 0
+IsReady ns nodes done (Visit n b) = (n.index < nodes) × (b ≤ length ns)
+IsReady ns nodes done (Lam d) = 0 < done
+IsReady ns nodes done (App m) = m < done

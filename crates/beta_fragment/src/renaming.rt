@@ -14,8 +14,8 @@ ghost use Rattle.ref_terms.specs.terms.Term as term;
 ghost use Rattle.ref_terms.specs.terms.Term.{Term};
 ghost use Rattle.ref_terms.specs.unification.Spine.{apply_all};
 ghost use Rattle.beta_fragment.specs.Names.{names as own_names, renamed as renamed_by, AllBelow, AreDistinct};
-ghost use Rattle.beta_fragment.specs.Moves.{moved, moved_level, IsMove, value_of, IsAppOf, IsLamOf, IsLevelOf, IsVarOf, AreLevelsOf, IsMovedVar};
-ghost use Rattle.beta_fragment.specs.Work.{State, Steps, visits};
+ghost use Rattle.beta_fragment.specs.Moves.{moved, moved_level, IsMove, value_of, IsAppOf, IsLamOf, IsLevelOf, IsVarOf, AreLevelsOf, IsMovedVar, Moves};
+ghost use Rattle.beta_fragment.specs.Work.{State, Steps, visits, IsReady};
 ghost use Rattle.level_terms.specs.declared.node.TermId.{TermId as Id};
 ghost use Rattle.beta_fragment.specs.declared.renaming.Task.{Task as TaskOf};
 ghost use Rattle.level_terms.specs.declared.node.Node.TheVariants.{Lam as lam_node, App as app_node, Var as var_node, Level as level_node};
@@ -445,4 +445,66 @@ fn make_app(alloc: Global, heap: &mut Heap, args: usize, done: &mut Vec<TermId>)
     done.truncate(at - 1);
     done.push(r)?;
     Ok(())
+}
+
+/// Does a task.
+fn step(
+    alloc: Global,
+    heap: &mut Heap,
+    names: &[usize],
+    fixed: usize,
+    to: usize,
+    task: Task,
+    work: &mut Vec<Task>,
+    done: &mut Vec<TermId>,
+) -> Result<(), AllocError>
+    requires moves { IsMove names.now fixed to }
+    requires ready { IsReady names.now (length heap.old.nodes) (length done.old.items) task }
+    requires done { AllOlder (length heap.old.nodes) done.old.items }
+    ensures steps { OnOk result (Steps names.now to (record { heap = heap.old; work = work.old.items ++ task ∷ []; done = done.old.items }) (record { heap = heap.new; work = work.new.items; done = done.new.items })) }
+    ensures done { OnOk result (AllOlder (length heap.new.nodes) done.new.items) }
+    ensures grows { Grows heap.old heap.new [] [] }
+{
+    match task {
+        Task::Visit { node, base } => visit(alloc, heap, names, fixed, to, node, base, work, done),
+        Task::Lam { depth } => make_lam(heap, depth, done),
+        Task::App { args } => make_app(alloc, heap, args, done),
+    }
+}
+
+/// The list of one task.
+fn first_task(alloc: Global, node: TermId, base: usize) -> Result<Vec<Task>, AllocError>
+    ensures { IfOk result (λ work. work.items ≡ visit_task node base ∷ []) }
+{
+    let mut work = Vec::new(alloc);
+    work.push(Task::Visit { node, base })?;
+    Ok(work)
+}
+
+/// The node with its levels moved: each below the number of names to the name that the list has for
+/// it. Those below `fixed` stay.
+pub(crate) fn moved_node(
+    alloc: Global,
+    heap: &mut Heap,
+    names: &[usize],
+    fixed: usize,
+    to: usize,
+    t: TermId,
+) -> Result<TermId, AllocError>
+    requires moves { IsMove names.now fixed to }
+    requires valid { IsValid heap.old t.index (length names.now) }
+    ensures moves { IfOk result (λ r. Moves heap.old names.now to t.index (length names.now) (length names.now) (value_of heap.new r)) }
+    ensures there { IfOk result (λ r. r.index < length heap.new.nodes) }
+    ensures grows { Grows heap.old heap.new [] [] }
+{
+    heap.is_sound();
+    let mut work = first_task(alloc, t, names.len())?;
+    let mut done = Vec::new(alloc);
+    while let Some(task) = work.pop() {
+        step(alloc, heap, names, fixed, to, task, &mut work, &mut done)?;
+    }
+    match done.pop() {
+        Some(r) => Ok(r),
+        None => unreachable!(),
+    }
 }
