@@ -21,3 +21,7 @@ args-slice xs at = ap (λ k. take k (drop at xs)) (sym (length-drop at xs)) ∙ 
 
 pub args-count : (xs : List TermId) (len n : ℕ) → len ≡ length xs → n < length xs → length (drop (len - n) xs) ≡ n
 args-count xs len n l h = let k = length-drop (len - n) xs in omega (arith, k, l, h)
+
+pub empty-list : {A : Type 0} (xs : List A) → length xs ≡ 0 → xs ≡ []
+empty-list [] h = refl
+empty-list (x ∷ xs) h = absurd (omega (arith, h))

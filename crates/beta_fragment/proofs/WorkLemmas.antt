@@ -17,11 +17,11 @@ use Rattle.beta_fragment.specs.declared.renaming.Task.{Task}
 use Rattle.beta_fragment.specs.declared.renaming.Task.TheVariants.{Visit, Lam, App}
 use Rattle.beta_fragment.specs.HeadForm.{AllValidAt}
 use Rattle.beta_fragment.specs.Moves.{Value, value_of, Moves, IsLamOf, IsAppOf}
-use Rattle.beta_fragment.specs.Work.{Leads, task_size, work_size, State, IsLeading, Steps, visits}
+use Rattle.beta_fragment.specs.Work.{Leads, task_size, work_size, State, IsLeading, Steps, visits, IsReady}
 use Rattle.beta_fragment.specs.Names.{AllBelow}
 use Rattle.beta_fragment.proofs.ReadLemmas.{valid-below}
 use Rattle.beta_fragment.proofs.EnterLemmas.{body-valid}
-use Rattle.beta_fragment.proofs.MakeLemmas.{values-kept}
+use Rattle.beta_fragment.proofs.MakeLemmas.{values-kept, grown-length}
 use Rattle.beta_fragment.proofs.MoveLemmas.{AllMove, lam-moves, app-moves, app-valid}
 
 -- lists that are joined at an item are the same where their ends are equally long
@@ -193,3 +193,31 @@ module _ (ns : List ℕ) (to : ℕ) where
       let more = work-append g (visits b args) (App (length args) ∷ []) in
       let each = visits-size g b args in
       omega (arith, less, more, each)
+
+-- the next task can be done
+pub leads-ready : (g h : Graph) (ns : List ℕ) (to t base source : ℕ) (task : Task) (k : List Task) (done : List TermId) → Grows g h [] [] → Leads g ns to t base source (task ∷ k) (map (value_of h) done) → IsReady ns (length h.nodes) (length done) task
+leads-ready g h ns to t base source (Visit n b) k done gr l =
+    let below = valid-below g n.index l.0 l.1 in
+    let more = grown-length g h gr in
+    (omega (arith, below, more), l.3)
+leads-ready g h ns to t base source (Lam d) k done gr l =
+    let long = sym (length-map done (value_of h)) ∙ ap length l.2 ∙ length-append l.0 (l.1 ∷ []) in
+    omega (arith, long)
+leads-ready g h ns to t base source (App m) k done gr l =
+    let long = sym (length-map done (value_of h)) ∙ ap length l.3 ∙ length-append l.0 (l.1 ∷ l.2) in
+    let count = l.4 in
+    omega (arith, long, count)
+
+pub last-leads : (g h : Graph) (ns : List ℕ) (to t base source : ℕ) (done front : List TermId) (r : TermId) → done ≡ front ++ r ∷ [] → Leads g ns to t base source [] (map (value_of h) done) → Moves g ns to t base source (value_of h r)
+last-leads g h ns to t base source done front r e l = go front (subst (λ ds. Leads g ns to t base source [] (map (value_of h) ds)) e l)
+  where
+    two : (f : List TermId) (x : TermId) → Leads g ns to t base source [] (map (value_of h) (x ∷ (f ++ r ∷ []))) → Moves g ns to t base source (value_of h r)
+    two [] x m = absurd m
+    two (y ∷ f) x m = absurd m
+
+    go : (f : List TermId) → Leads g ns to t base source [] (map (value_of h) (f ++ r ∷ [])) → Moves g ns to t base source (value_of h r)
+    go [] m = m
+    go (x ∷ f) m = two f x m
+
+pub some-done : (g h : Graph) (ns : List ℕ) (to t base source : ℕ) (done : List TermId) → Leads g ns to t base source [] (map (value_of h) done) → done ≡ [] → ⊥
+some-done g h ns to t base source done l e = subst (λ ds. Leads g ns to t base source [] (map (value_of h) ds)) e l

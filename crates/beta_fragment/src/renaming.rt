@@ -47,7 +47,22 @@ pub fn lift(alloc: Global, heap: &mut Heap, t: TermId, from: usize, to: usize, n
     ensures valid { IfOk result (λ r. IsValid heap.new r.index to) }
     ensures grows { Grows heap.old heap.new [] [] }
 {
-    Err(AllocError)
+    let names = &names.as_slice()[..from];
+    let fixed = fixed_names(names);
+    moved_node(alloc, heap, names, fixed, to, t)
+}
+
+/// How many of the names stay, from the first one on.
+fn fixed_names(names: &[usize]) -> usize
+    ensures few { result ≤ length names.now }
+    ensures stay { (i : ℕ) → i < result → slice_index names.now i ≡ i }
+{
+    for (i, name) in names.iter().enumerate() {
+        if *name != i {
+            return i;
+        }
+    }
+    names.len()
 }
 
 /// Both lists, one after the other.

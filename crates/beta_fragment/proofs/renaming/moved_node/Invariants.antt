@@ -6,7 +6,7 @@ use Rattle.beta_fragment.proofs.renaming.moved_node.Given as goal
 
 abbrev pub invariant-loop-task : goal.invariant-loop-task
 invariant-loop-task l = record {
-  leads : IsLeading l.fn.heap l.names l.to l.t.index (length l.names) (length l.names) (record { heap = l.heap; work = l.work.items; done = l.done.items });
+  leads : IsLeading l.fn.heap l.names l.to l.fn.t.index (length l.names) (length l.names) (record { heap = l.heap; work = l.work.items; done = l.done.items });
   there : AllOlder (length l.heap.nodes) l.done.items;
   grows : Grows l.fn.heap l.heap [] [];
 }
