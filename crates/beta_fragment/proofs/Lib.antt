@@ -7,3 +7,4 @@ pub mod VisitLemmas
 pub mod VarLemmas
 pub mod StayLemmas
 pub mod SplitLemmas
+pub mod LiftLemmas
