@@ -8,3 +8,4 @@ pub mod VarLemmas
 pub mod StayLemmas
 pub mod SplitLemmas
 pub mod LiftLemmas
+pub mod FirmLemmas

@@ -3,3 +3,4 @@ pub mod Body
 pub mod HeadForm
 pub mod Moves
 pub mod Work
+pub mod Firm

@@ -7,6 +7,7 @@
 mod answer;
 mod body;
 mod equality;
+mod glance;
 mod head;
 mod opening;
 mod renaming;
