@@ -93,14 +93,28 @@ fn is_firm_head(heap: &Heap, t: TermId) -> bool
     }
 }
 
+/// Whether two levels differ.
+fn are_different(a: usize, b: usize) -> bool
+    ensures { IsTrue result → a ≡ b → ⊥ }
+{
+    a != b
+}
+
+/// Whether a depth isn't above another.
+fn is_within(a: usize, b: usize) -> bool
+    ensures { IsTrue result → a ≤ b }
+{
+    a <= b
+}
+
 /// Whether the node is certain not to be the name of the level.
 fn is_other(heap: &Heap, t: TermId, depth: usize) -> bool
-    requires valid { t.index < length heap.now.nodes }
+    requires { t.index < length heap.now.nodes }
     ensures { IsTrue result → (s : ℕ) → IsValid heap.now t.index s → IsOther heap.now depth t.index }
 {
     heap.is_sound();
     match heap.view(t) {
-        Node::Level(l) => *l != depth,
+        Node::Level(l) => are_different(*l, depth),
         Node::Lam { depth: made, .. } => *made <= depth || is_firm(heap, t),
         Node::Var(v) => heap.var_depth(*v) <= depth || is_firm(heap, t),
         Node::App { head, .. } => is_plain(heap, *head),
@@ -120,7 +134,7 @@ fn ends_otherwise(heap: &Heap, t: TermId, depth: usize) -> bool
         Node::Int(_) => true,
         Node::Str(_) => true,
         Node::Level(_) => true,
-        Node::Var(v) => heap.var_depth(*v) <= depth,
+        Node::Var(v) => is_within(heap.var_depth(*v), depth),
         Node::App { head, args } => match args.as_slice().last() {
             Some(last) => is_plain(heap, *head) && is_other(heap, *last, depth),
             None => false,
