@@ -244,3 +244,23 @@ level-ends g t depth l s e env p = ap eta (nodes_read g t (Level l) (enter depth
 
 pub leaf-ends : (g : Graph) (t depth : ℕ) (n : Node) → IsSound g → node_at g.nodes t ≡ Some n → ((env : ℕ → Term) → eta (node_reads g n env) ≡ None) → EndsOtherwise g depth t
 leaf-ends g t depth n s e w env p = ap eta (nodes_read g t n (enter depth env) s (places-enter depth env p) e) ∙ w (enter depth env)
+
+pub reads-level : (g : Graph) (t l : ℕ) → IsSound g → node_at g.nodes t ≡ Some (Level l) → (env : ℕ → Term) → ArePlaces env → read g t env ≡ env l
+reads-level g t l s e env p = nodes_read g t (Level l) env s p e
+
+applied-unready : (xs : List Term) (t : Term) → IsPlain t → 0 < length xs → ready (apply_all t xs) ≡ false
+applied-unready [] t w h = absurd (omega (arith, h))
+applied-unready (x ∷ []) t w h = ap ready (apply-plain t x w) ∙ app-unready t x
+applied-unready (x ∷ y ∷ xs) t w h = applied-unready (y ∷ xs) (apply t x) (subst IsPlain (sym (apply-plain t x w)) tt) (omega arith)
+
+pub plain-unready : (g : Graph) (t : ℕ) (k : TermId) (ts : List TermId) → IsSound g → node_at g.nodes t ≡ Some (App k ts) → IsPlainNode g k.index → 0 < length ts → (env : ℕ → Term) → ArePlaces env → ready (read g t env) ≡ false
+plain-unready g t k ts s e w long env p =
+    ap ready (nodes_read g t (App k ts) env s p e)
+    ∙ applied-unready (map (λ u. read g u.index env) ts) (read g k.index env) (w env p) (let l = length-map ts (λ u. read g u.index env) in omega (arith, l, long))
+
+-- a variable that has a value reads as it
+pub reads-value : (g : Graph) (t value : ℕ) (v : VarId) → IsSound g → node_at g.nodes t ≡ Some (Var v) → value_in g.assigned v.index ≡ Some value → (env : ℕ → Term) → ArePlaces env → read g t env ≡ read g value env
+reads-value g t value v s e f env p = nodes_read g t (Var v) env s p e ∙ ap (λ o. variable_reads g v.index o env) f
+
+pub var-unready : (g : Graph) (t : ℕ) (v : VarId) → IsSound g → node_at g.nodes t ≡ Some (Var v) → value_in g.assigned v.index ≡ None → (env : ℕ → Term) → ArePlaces env → ready (read g t env) ≡ false
+var-unready g t v s e f env p = firm-unready (read g t env) (var-firm g t v s e f env p)

@@ -4,3 +4,4 @@ pub mod HeadForm
 pub mod Moves
 pub mod Work
 pub mod Firm
+pub mod Spine

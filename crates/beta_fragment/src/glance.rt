@@ -185,7 +185,10 @@ fn looked_at_end(heap: &Heap, t: TermId) -> Readiness
         Node::Level(l) => Readiness::Level(*l),
         Node::App { head, .. } if is_plain(heap, *head) => Readiness::Unready,
         _ => {
-            if is_firm(heap, t) || is_abstraction(heap, t) {
+            if is_firm(heap, t) {
+                return Readiness::Unready;
+            }
+            if is_abstraction(heap, t) {
                 return Readiness::Unready;
             }
             Readiness::Unknown

@@ -1,14 +1,28 @@
 //! What stands at a term's head.
+//!
+//! The head is followed through applications, values and abstractions that take a ready argument.
+//! The levels of the head's node stand for names, so that no body is copied.
 
-ghost use Rattle.std.specs.Prelude.{◌≡◌, [], IfOk};
+ghost use Rattle.std.specs.Prelude.{◌≡◌, ℕ, [], ◌∷◌, ◌++◌, ◌<◌, ◌≤◌, length, map, drop, reverse, slice_index, slice_get, IfOk, OnOk, None, Some};
+ghost use Rattle.level_terms.specs.Graph.{node_at, value_in};
+ghost use Rattle.level_terms.specs.Sound.{IsSound};
 ghost use Rattle.level_terms.specs.Valid.{IsValid};
 ghost use Rattle.level_terms.specs.Reading.{read};
 ghost use Rattle.level_terms.specs.Growth.{Grows};
-ghost use Rattle.beta_fragment.specs.Names.{names};
-ghost use Rattle.beta_fragment.specs.HeadForm.{IsHeadForm};
+ghost use Rattle.level_terms.specs.declared.node.Node.TheVariants.{Lam as lam_node, App as app_node, Var as var_node};
+ghost use Rattle.ref_terms.specs.terms.Term as term;
+ghost use Rattle.ref_terms.specs.terms.Term.{Term};
+ghost use Rattle.ref_terms.specs.unification.Spine.{apply_all};
+ghost use Rattle.beta_fragment.specs.Names.{names, renamed, AllBelow};
+ghost use Rattle.beta_fragment.specs.Moves.{IsMove};
+ghost use Rattle.beta_fragment.specs.HeadForm.{IsHeadForm, AllValidAt, all_read, rigid_head, ReadsAsLam};
+ghost use Rattle.beta_fragment.specs.Firm.{IsSpine, IsAbstractionNode};
+ghost use Rattle.beta_fragment.specs.Spine.{args_in};
 
-use crate::answer::Whnf;
-use level_terms::{Heap, TermId};
+use crate::answer::{RigidHead, Whnf};
+use crate::glance::{is_abstraction, looked_at, Readiness};
+use crate::renaming::moved_node;
+use level_terms::{Heap, Node, TermId, TermIds, VarId};
 use std::alloc::{AllocError, Global};
 
 /// What the term is: an abstraction exactly where it reads as one, and else its head with all its
@@ -19,4 +33,60 @@ pub fn whnf(alloc: Global, heap: &mut Heap, t: TermId, depth: usize) -> Result<W
     ensures grows { Grows heap.old heap.new [] [] }
 {
     Err(AllocError)
+}
+
+/// The levels below a depth, each for its own name.
+fn own_levels(alloc: Global, depth: usize) -> Result<Vec<usize>, AllocError>
+    ensures count { IfOk result (λ levels. length levels.items ≡ depth) }
+    ensures own { IfOk result (λ levels. (i : ℕ) → i < depth → slice_index levels.items i ≡ i) }
+{
+    let mut levels = Vec::new(alloc);
+    for level in 0..depth {
+        levels.push(level)?;
+    }
+    Ok(levels)
+}
+
+/// An argument of an application.
+fn arg_of(heap: &Heap, t: TermId, i: usize) -> TermId
+    requires there { t.index < length heap.now.nodes }
+    requires within { i < length (args_in (node_at heap.now.nodes t.index)) }
+    ensures { Some result ≡ slice_get (args_in (node_at heap.now.nodes t.index)) i }
+{
+    match heap.view(t) {
+        Node::App { args, .. } => args.as_slice()[i],
+        _ => t,
+    }
+}
+
+/// Puts the arguments of an application, renamed, before those that are there.
+fn push_args(
+    alloc: Global,
+    heap: &mut Heap,
+    levels: &[usize],
+    fixed: usize,
+    depth: usize,
+    t: TermId,
+    count: usize,
+    args: &mut Vec<TermId>,
+) -> Result<(), AllocError>
+    requires moves { IsMove levels.now fixed depth }
+    requires there { t.index < length heap.old.nodes }
+    requires count { count ≡ length (args_in (node_at heap.old.nodes t.index)) }
+    requires valid { AllValidAt heap.old (args_in (node_at heap.old.nodes t.index)) (length levels.now) }
+    requires args { AllValidAt heap.old (reverse args.old.items) depth }
+    ensures reads { OnOk result (all_read heap.new (reverse args.new.items) ≡ map (λ a. read heap.old a.index (renamed levels.now)) (args_in (node_at heap.old.nodes t.index)) ++ all_read heap.old (reverse args.old.items)) }
+    ensures valid { OnOk result (AllValidAt heap.new (reverse args.new.items) depth) }
+    ensures grows { Grows heap.old heap.new [] [] }
+{
+    heap.is_sound();
+    let mut i = count;
+    while i > 0 {
+        i -= 1;
+        heap.is_sound();
+        let arg = arg_of(heap, t, i);
+        let r = moved_node(alloc, heap, levels, fixed, depth, arg)?;
+        args.push(r)?;
+    }
+    Ok(())
 }
