@@ -9,3 +9,4 @@ pub mod StayLemmas
 pub mod SplitLemmas
 pub mod LiftLemmas
 pub mod FirmLemmas
+pub mod HeadLemmas

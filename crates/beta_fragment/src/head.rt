@@ -14,14 +14,15 @@ ghost use Rattle.ref_terms.specs.terms.Term as term;
 ghost use Rattle.ref_terms.specs.terms.Term.{Term};
 ghost use Rattle.ref_terms.specs.unification.Spine.{apply_all};
 ghost use Rattle.beta_fragment.specs.Names.{names, renamed, AllBelow};
-ghost use Rattle.beta_fragment.specs.Moves.{IsMove};
+ghost use Rattle.beta_fragment.specs.Moves.{IsMove, IsVarOf, value_of};
 ghost use Rattle.beta_fragment.specs.HeadForm.{IsHeadForm, AllValidAt, all_read, rigid_head, ReadsAsLam};
 ghost use Rattle.beta_fragment.specs.Firm.{IsSpine, IsAbstractionNode};
 ghost use Rattle.beta_fragment.specs.Spine.{args_in};
+ghost use Rattle.beta_fragment.specs.Body.{IsLam};
 
 use crate::answer::{RigidHead, Whnf};
 use crate::glance::{is_abstraction, looked_at, Readiness};
-use crate::renaming::moved_node;
+use crate::renaming::{made_lam, moved_levels, moved_node, sum_of};
 use level_terms::{Heap, Node, TermId, TermIds, VarId};
 use std::alloc::{AllocError, Global};
 
@@ -89,4 +90,81 @@ fn push_args(
         args.push(r)?;
     }
     Ok(())
+}
+
+/// The nodes of the first list, and then those of the second from its last one on.
+fn in_order(alloc: Global, first: &[TermId], stack: &[TermId]) -> Result<TermIds, AllocError>
+    ensures { IfOk result (λ list. list ≡ first.now ++ reverse stack.now) }
+{
+    let mut list = TermIds::from_slice(alloc, first)?;
+    let mut i = stack.len();
+    while i > 0 {
+        i -= 1;
+        list.push(stack[i])?;
+    }
+    Ok(list)
+}
+
+/// The form of a head that no assignment changes.
+fn rigid(alloc: Global, heap: &Heap, t: TermId, head: RigidHead, levels: &[usize], depth: usize, args: &[TermId]) -> Result<Whnf, AllocError>
+    requires head { read heap.now t.index (renamed levels.now) ≡ term.At (rigid_head head) }
+    ensures { IfOk result (λ w. (u : Term) → IsSpine heap.now depth u t.index levels.now args.now → IsHeadForm heap.now depth u w) }
+{
+    let list = in_order(alloc, &[], args)?;
+    Ok(Whnf::Rigid(head, list))
+}
+
+/// The form of a variable that has no value: it has the levels below `count` as its first arguments.
+fn flex(
+    alloc: Global,
+    heap: &mut Heap,
+    t: TermId,
+    v: VarId,
+    count: usize,
+    levels: &[usize],
+    depth: usize,
+    args: &[TermId],
+) -> Result<Whnf, AllocError>
+    requires known { v.index < length heap.old.depths }
+    requires free { value_in heap.old.assigned v.index ≡ None }
+    requires open_at { IsVarOf v.index count (value_of heap.old t) }
+    requires count { count ≤ length levels.now }
+    requires below { AllBelow levels.now depth }
+    ensures form { IfOk result (λ w. (u : Term) → IsSpine heap.old depth u t.index levels.now args.now → IsHeadForm heap.new depth u w) }
+    ensures grows { Grows heap.old heap.new [] [] }
+{
+    heap.is_sound();
+    let first = moved_levels(alloc, heap, levels, levels.len(), depth, count)?;
+    let list = in_order(alloc, first.as_slice(), args)?;
+    Ok(Whnf::Flex(v, list))
+}
+
+/// An abstraction with its levels renamed. Where these stay it is the same node.
+fn renamed_lam(
+    alloc: Global,
+    heap: &mut Heap,
+    t: TermId,
+    made: usize,
+    body: TermId,
+    levels: &mut Vec<usize>,
+    fixed: usize,
+    depth: usize,
+) -> Result<TermId, AllocError>
+    requires here { node_at heap.old.nodes t.index ≡ Some (lam_node made body) }
+    requires valid { IsValid heap.old t.index (length levels.old.items) }
+    requires moves { IsMove levels.old.items fixed depth }
+    ensures reads { IfOk result (λ r. read heap.new r.index names ≡ read heap.old t.index (renamed levels.old.items)) }
+    ensures lam { IfOk result (λ r. IsLam (node_at heap.new.nodes r.index)) }
+    ensures valid { IfOk result (λ r. IsValid heap.new r.index depth) }
+    ensures grows { Grows heap.old heap.new [] [] }
+{
+    heap.is_sound();
+    if made <= fixed {
+        return Ok(t);
+    }
+    let inner = sum_of(depth, 1)?;
+    levels.truncate(made);
+    levels.push(depth)?;
+    let r = moved_node(alloc, heap, levels.as_slice(), fixed, inner, body)?;
+    made_lam(heap, depth, r)
 }

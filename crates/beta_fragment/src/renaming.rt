@@ -110,7 +110,7 @@ pub(crate) fn applied(alloc: Global, heap: &mut Heap, head: TermId, args: &[Term
 }
 
 /// The abstraction of a body at a depth.
-fn made_lam(heap: &mut Heap, depth: usize, body: TermId) -> Result<TermId, AllocError>
+pub(crate) fn made_lam(heap: &mut Heap, depth: usize, body: TermId) -> Result<TermId, AllocError>
     requires { body.index < length heap.old.nodes }
     ensures lam { IfOk result (λ r. IsLamOf depth (value_of heap.old body) (value_of heap.new r)) }
     ensures head { IfOk result (λ r. IsHead (node_at heap.new.nodes r.index)) }
@@ -135,7 +135,7 @@ fn level_after(names: &[usize], base: usize, to: usize, level: usize) -> Result<
 }
 
 /// The sum, or `AllocError` past 64 bits.
-fn sum_of(a: usize, b: usize) -> Result<usize, AllocError>
+pub(crate) fn sum_of(a: usize, b: usize) -> Result<usize, AllocError>
     ensures { IfOk result (λ n. n ≡ a + b) }
 {
     a.checked_add(b).ok_or(AllocError)
@@ -269,7 +269,7 @@ fn made_var(heap: &mut Heap, v: VarId) -> Result<TermId, AllocError>
 }
 
 /// The nodes of the levels below a depth, moved.
-fn moved_levels(
+pub(crate) fn moved_levels(
     alloc: Global,
     heap: &mut Heap,
     names: &[usize],
