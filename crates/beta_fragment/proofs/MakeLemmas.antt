@@ -92,7 +92,7 @@ lam-made g h d b r s s' e made known =
     below d f l = grind (arith, l)
 
 -- an application before more arguments is one with all of them
-apply_all-append : (xs ys : List Term) (t : Term) → apply_all t (xs ++ ys) ≡ apply_all (apply_all t xs) ys
+pub apply_all-append : (xs ys : List Term) (t : Term) → apply_all t (xs ++ ys) ≡ apply_all (apply_all t xs) ys
 apply_all-append [] ys t = refl
 apply_all-append (x ∷ xs) ys t = apply_all-append xs ys (apply t x)
 

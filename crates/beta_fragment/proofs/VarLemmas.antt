@@ -56,7 +56,7 @@ levels-last : (d : ℕ) (e : ℕ → Term) → levels (suc d) e ≡ levels d e +
 levels-last zero e = refl
 levels-last (suc d) e = ap (λ (xs : List Term). e 0 ∷ xs) (levels-last d (λ i. e (suc i)))
 
-levels-agree : (d : ℕ) (e f : ℕ → Term) → ((i : ℕ) → i < d → e i ≡ f i) → levels d e ≡ levels d f
+pub levels-agree : (d : ℕ) (e f : ℕ → Term) → ((i : ℕ) → i < d → e i ≡ f i) → levels d e ≡ levels d f
 levels-agree zero e f h = refl
 levels-agree (suc d) e f h = ap₂ (λ (x : Term) (xs : List Term). x ∷ xs) (h 0 (omega arith)) (levels-agree d (λ i. e (suc i)) (λ i. f (suc i)) (λ i k. h (suc i) (omega (arith, k))))
 
@@ -64,10 +64,10 @@ levels-shift : (d : ℕ) (e : ℕ → Term) → levels d (λ i. shift (e i)) ≡
 levels-shift zero e = refl
 levels-shift (suc d) e = ap (λ (xs : List Term). shift (e 0) ∷ xs) (levels-shift d (λ i. e (suc i)))
 
-enter-own : (d : ℕ) (env : ℕ → Term) → enter d env d ≡ At (term.Bound 0)
+pub enter-own : (d : ℕ) (env : ℕ → Term) → enter d env d ≡ At (term.Bound 0)
 enter-own d env = ap (λ b. cond b (At (term.Bound 0)) (shift (env d))) (eq-eqb d d refl)
 
-enter-other : (d : ℕ) (env : ℕ → Term) (i : ℕ) → i < d → enter d env i ≡ shift (env i)
+pub enter-other : (d : ℕ) (env : ℕ → Term) (i : ℕ) → i < d → enter d env i ≡ shift (env i)
 enter-other d env i h = ap (λ b. cond b (At (term.Bound 0)) (shift (env i))) (ne_eqb d i (omega (arith, h)))
 
 apply_all-last : (xs : List Term) (t x : Term) → apply_all t (xs ++ x ∷ []) ≡ apply (apply_all t xs) x
@@ -102,7 +102,7 @@ lam-var v d y x w m = record {
 }
 
 -- levels, moved
-levels-terms : (ns : List ℕ) (base to k : ℕ) (xs : List Value) → AreLevelsOf ns base to k xs → (env : ℕ → Term) → ArePlaces env →
+pub levels-terms : (ns : List ℕ) (base to k : ℕ) (xs : List Value) → AreLevelsOf ns base to k xs → (env : ℕ → Term) → ArePlaces env →
     map (λ (y : Value). y.term env) xs ≡ levels (length xs) (λ i. moved ns base to env (k + i))
 levels-terms ns base to k [] w env p = refl
 levels-terms ns base to k (x ∷ xs) w env p =
@@ -110,7 +110,7 @@ levels-terms ns base to k (x ∷ xs) w env p =
     ap₂ (λ (y : Term) (ys : List Term). y ∷ ys) (w.0.term env p ∙ here) (levels-terms ns base to (suc k) xs w.1 env p
       ∙ ap (levels (length xs)) (fun_ext (λ i. ap (moved ns base to env) (let q : suc k + i ≡ k + suc i = omega arith in q))))
 
-levels-hold : (ns : List ℕ) (base to k : ℕ) (xs : List Value) → AreLevelsOf ns base to k xs → (e : ℕ) → ((i : ℕ) → i < k + length xs → moved_level ns base to i < e) → list_all (λ (y : Value). y.holds e) xs ≡ true
+pub levels-hold : (ns : List ℕ) (base to k : ℕ) (xs : List Value) → AreLevelsOf ns base to k xs → (e : ℕ) → ((i : ℕ) → i < k + length xs → moved_level ns base to i < e) → list_all (λ (y : Value). y.holds e) xs ≡ true
 levels-hold ns base to k [] w e h = refl
 levels-hold ns base to k (x ∷ xs) w e h = and_both (x.holds e) _ (w.0.holds e (h k (omega arith))) (levels-hold ns base to (suc k) xs w.1 e (λ i q. h i (omega (arith, q))))
 

@@ -114,6 +114,7 @@ pub(crate) fn made_lam(heap: &mut Heap, depth: usize, body: TermId) -> Result<Te
     requires { body.index < length heap.old.nodes }
     ensures lam { IfOk result (λ r. IsLamOf depth (value_of heap.old body) (value_of heap.new r)) }
     ensures head { IfOk result (λ r. IsHead (node_at heap.new.nodes r.index)) }
+    ensures node { IfOk result (λ r. node_at heap.new.nodes r.index ≡ Some (lam_node depth body)) }
     ensures there { IfOk result (λ r. r.index < length heap.new.nodes) }
     ensures grows { Grows heap.old heap.new [] [] }
 {
