@@ -23,9 +23,17 @@ use Rattle.ref_terms.specs.terms.Ready.{ready}
 use Rattle.ref_terms.specs.terms.Apply.{apply}
 use Rattle.ref_terms.specs.unification.Spine.{apply_all, head_of}
 use Rattle.ref_terms.specs.lemmas.EtaLemmas.{eta-some}
+use Rattle.std.proofs.Common.{nat_lt, ◌+◌}
+use Rattle.level_terms.specs.Valid.{valid}
+use Rattle.level_terms.proofs.ValidLemmas.{nodes_valid}
+use Rattle.beta_fragment.specs.declared.glance.Readiness.{Readiness}
+use Rattle.beta_fragment.specs.declared.glance.Readiness.TheVariants.{Level as some_level, Unready, Unknown}
+use Rattle.beta_fragment.specs.Moves.{value_of, IsLamOf, IsVarOf}
+use Rattle.beta_fragment.proofs.MakeLemmas.{and_both}
+use Rattle.beta_fragment.proofs.MoveLemmas.{below_true}
 use Rattle.beta_fragment.specs.Names.{names}
 use Rattle.beta_fragment.specs.HeadForm.{IsAbstraction}
-use Rattle.beta_fragment.specs.Firm.{IsPlain, IsFirmHead, IsFirm, IsFirmNode, IsPlainNode, IsAbstractionNode, EndsOtherwise, IsOther}
+use Rattle.beta_fragment.specs.Firm.{IsPlain, IsFirmHead, IsFirm, IsFirmNode, IsPlainNode, IsAbstractionNode, EndsOtherwise, IsOther, IsReadiness}
 use Rattle.beta_fragment.proofs.ReadLemmas.{read-built, read-follows}
 
 -- a fact on what a node reads as, by what stands at it
@@ -264,3 +272,21 @@ reads-value g t value v s e f env p = nodes_read g t (Var v) env s p e ∙ ap (�
 
 pub var-unready : (g : Graph) (t : ℕ) (v : VarId) → IsSound g → node_at g.nodes t ≡ Some (Var v) → value_in g.assigned v.index ≡ None → (env : ℕ → Term) → ArePlaces env → ready (read g t env) ≡ false
 var-unready g t v s e f env p = firm-unready (read g t env) (var-firm g t v s e f env p)
+
+pub readiness-before : (u w : Term) (d s : ℕ) (r : Readiness) → u ≡ w → d ≤ s → IsReadiness d w r → IsReadiness s u r
+readiness-before u w d s (some_level k) e l h = (e ∙ h.0, let q = h.1 in omega (arith, l, q))
+readiness-before u w d s Unready e l h = ap ready e ∙ h
+readiness-before u w d s Unknown e l h = tt
+
+-- nodes that are there
+pub lam-known : (g : Graph) (t : TermId) (d : ℕ) (b : TermId) → IsSound g → node_at g.nodes t.index ≡ Some (Lam d b) → IsLamOf d (value_of g b) (value_of g t)
+lam-known g t d b s e = record {
+  term = λ env p. nodes_read g t.index (Lam d b) env s p e;
+  holds = λ h f l. nodes_valid g t.index (Lam d b) f s e ∙ and_both (nat_lt d (suc f)) _ (below_true d (suc f) (omega (arith, l))) (subst (λ n. valid g.nodes g.depths b.index n ≡ true) (let q : d + 1 ≡ suc d = omega arith in q) h);
+}
+
+pub var-open : (g : Graph) (t : TermId) (v : VarId) → IsSound g → node_at g.nodes t.index ≡ Some (Var v) → value_in g.assigned v.index ≡ None → IsVarOf v.index (slice_index g.depths v.index) (value_of g t)
+var-open g t v s e f = record {
+  term = λ env p. nodes_read g t.index (Var v) env s p e ∙ ap (λ o. variable_reads g v.index o env) f;
+  holds = λ d l. nodes_valid g t.index (Var v) d s e ∙ below_true (slice_index g.depths v.index) (suc d) (omega (arith, l));
+}

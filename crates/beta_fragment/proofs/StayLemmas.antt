@@ -1,7 +1,7 @@
 -- The least depths at which nodes are valid.
 use Rattle.std.proofs.Common.{◌≡◌, ℕ, suc, ◌≤◌, ◌<◌, ◌&&◌, ◌++◌, List, [], ◌∷◌, length, cond, nat_eq, nat_lt, Bool, true, false, Some, None, slice_index, refl, sym, ap, ◌∙◌, arith, subst}
 use Rattle.level_terms.specs.declared.node.Node.{Node}
-use Rattle.level_terms.specs.declared.node.Node.TheVariants.{Con, Int, Str, Lam, App, Var}
+use Rattle.level_terms.specs.declared.node.Node.TheVariants.{Con, Int, Str, Level, Lam, App, Var}
 use Rattle.level_terms.specs.declared.node.TermId.{TermId}
 use Rattle.level_terms.specs.declared.node.VarId.{VarId}
 use Rattle.ref_terms.specs.declared.sym.Sym.{Sym}
@@ -13,7 +13,7 @@ use Rattle.level_terms.proofs.LocalLemmas.{and_left, and_right}
 use Rattle.level_terms.proofs.ValidLemmas.{nodes_valid}
 use Rattle.std.specs.Prelude.{ℤ}
 use Rattle.beta_fragment.proofs.MakeLemmas.{and_both}
-use Rattle.beta_fragment.proofs.MoveLemmas.{below_true, app-valid}
+use Rattle.beta_fragment.proofs.MoveLemmas.{below_true, below_from, app-valid}
 
 pub lam-stays : (g : Graph) (t d : ℕ) (b : TermId) (s : ℕ) → IsSound g → node_at g.nodes t ≡ Some (Lam d b) → IsValid g t s → IsValid g t d
 lam-stays g t d b s sound e v = nodes_valid g t (Lam d b) d sound e ∙ and_both (nat_lt d (suc d)) _ (below_true d (suc d) (omega arith)) (and_right (nat_lt d (suc s)) _ (sym (nodes_valid g t (Lam d b) s sound e) ∙ v))
@@ -48,3 +48,9 @@ last-of-valid g s (x ∷ front) u w = last-of-valid g s front u w.1
 
 pub last-valid : (g : Graph) (t s : ℕ) (k u : TermId) (ts front : List TermId) → IsSound g → node_at g.nodes t ≡ Some (App k ts) → ts ≡ front ++ u ∷ [] → IsValid g t s → IsValid g u.index s
 last-valid g t s k u ts front sound e split v = last-of-valid g s front u (subst (λ us. AllValidAt g us s) split (app-valid g t s k ts sound e v).1)
+
+pub var-low : (g : Graph) (t : ℕ) (v : VarId) (s : ℕ) → IsSound g → node_at g.nodes t ≡ Some (Var v) → IsValid g t s → slice_index g.depths v.index ≤ s
+var-low g t v s sound e h = let k : slice_index g.depths v.index < suc s = below_from (slice_index g.depths v.index) (suc s) (sym (nodes_valid g t (Var v) s sound e) ∙ h) in omega (arith, k)
+
+pub level-low : (g : Graph) (t l s : ℕ) → IsSound g → node_at g.nodes t ≡ Some (Level l) → IsValid g t s → l < s
+level-low g t l s sound e h = below_from l s (sym (nodes_valid g t (Level l) s sound e) ∙ h)

@@ -5,3 +5,4 @@ pub mod Moves
 pub mod Work
 pub mod Firm
 pub mod Spine
+pub mod Turn

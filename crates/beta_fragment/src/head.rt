@@ -19,9 +19,10 @@ ghost use Rattle.beta_fragment.specs.HeadForm.{IsHeadForm, AllValidAt, all_read,
 ghost use Rattle.beta_fragment.specs.Firm.{IsSpine, IsAbstractionNode};
 ghost use Rattle.beta_fragment.specs.Spine.{args_in};
 ghost use Rattle.beta_fragment.specs.Body.{IsLam};
+ghost use Rattle.beta_fragment.specs.Turn.{IsTurn, NoneReady, IsFirst};
 
 use crate::answer::{RigidHead, Whnf};
-use crate::glance::{is_abstraction, looked_at, Readiness};
+use crate::glance::{bare_var_of, is_abstraction, looked_at, Readiness};
 use crate::renaming::{made_lam, moved_levels, moved_node, sum_of};
 use level_terms::{Heap, Node, TermId, TermIds, VarId};
 use std::alloc::{AllocError, Global};
@@ -33,7 +34,26 @@ pub fn whnf(alloc: Global, heap: &mut Heap, t: TermId, depth: usize) -> Result<W
     ensures form { IfOk result (λ w. IsHeadForm heap.new depth (read heap.old t.index names) w) }
     ensures grows { Grows heap.old heap.new [] [] }
 {
-    Err(AllocError)
+    heap.is_sound();
+    let mut levels = own_levels(alloc, depth)?;
+    let mut fixed = depth;
+    let mut args = Vec::new(alloc);
+    let mut head = t;
+    loop {
+        match one_turn(alloc, heap, head, depth, &mut levels, &mut fixed, &mut args)? {
+            Turn::Goes(next) => head = next,
+            Turn::Ends(form) => return Ok(form),
+        }
+    }
+}
+
+/// What a turn comes to.
+#[derive(Drop)]
+enum Turn {
+    /// This node is at the head now.
+    Goes(TermId),
+    /// The form is found.
+    Ends(Whnf),
 }
 
 /// The levels below a depth, each for its own name.
@@ -167,4 +187,189 @@ fn renamed_lam(
     levels.push(depth)?;
     let r = moved_node(alloc, heap, levels.as_slice(), fixed, inner, body)?;
     made_lam(heap, depth, r)
+}
+
+/// The form of an abstraction that is certain to be one, before its arguments, if any: the first of
+/// them doesn't become ready.
+fn stuck(
+    alloc: Global,
+    heap: &mut Heap,
+    t: TermId,
+    made: usize,
+    body: TermId,
+    levels: &mut Vec<usize>,
+    fixed: usize,
+    depth: usize,
+    args: &[TermId],
+) -> Result<Whnf, AllocError>
+    requires here { node_at heap.old.nodes t.index ≡ Some (lam_node made body) }
+    requires valid { IsValid heap.old t.index (length levels.old.items) }
+    requires moves { IsMove levels.old.items fixed depth }
+    requires certain { IsAbstractionNode heap.old t.index }
+    requires unready { NoneReady heap.old (reverse args.now) }
+    ensures form { IfOk result (λ w. (u : Term) → IsSpine heap.old depth u t.index levels.old.items args.now → IsHeadForm heap.new depth u w) }
+    ensures grows { Grows heap.old heap.new [] [] }
+{
+    heap.is_sound();
+    let r = renamed_lam(alloc, heap, t, made, body, levels, fixed, depth)?;
+    if args.is_empty() {
+        return Ok(Whnf::Lam(r));
+    }
+    let list = in_order(alloc, &[], args)?;
+    Ok(Whnf::Redex(r, list))
+}
+
+/// The form of an abstraction, before its arguments, if any: the first of them doesn't become ready.
+fn held(
+    alloc: Global,
+    heap: &mut Heap,
+    t: TermId,
+    made: usize,
+    body: TermId,
+    levels: &mut Vec<usize>,
+    fixed: usize,
+    depth: usize,
+    args: &[TermId],
+) -> Result<Whnf, AllocError>
+    requires here { node_at heap.old.nodes t.index ≡ Some (lam_node made body) }
+    requires valid { IsValid heap.old t.index (length levels.old.items) }
+    requires moves { IsMove levels.old.items fixed depth }
+    requires unready { NoneReady heap.old (reverse args.now) }
+    ensures form { IfOk result (λ w. (u : Term) → IsSpine heap.old depth u t.index levels.old.items args.now → IsHeadForm heap.new depth u w) }
+    ensures grows { Grows heap.old heap.new [] [] }
+{
+    heap.is_sound();
+    if is_abstraction(heap, t) {
+        return stuck(alloc, heap, t, made, body, levels, fixed, depth, args);
+    }
+    match bare_var_of(heap, t, made) {
+        Some(v) => flex(alloc, heap, t, v, made, levels.as_slice(), depth, args),
+        None => Err(AllocError),
+    }
+}
+
+/// A turn at an abstraction.
+fn turn_lam(
+    alloc: Global,
+    heap: &mut Heap,
+    head: TermId,
+    made: usize,
+    body: TermId,
+    depth: usize,
+    levels: &mut Vec<usize>,
+    fixed: &mut usize,
+    args: &mut Vec<TermId>,
+) -> Result<Turn, AllocError>
+    requires here { node_at heap.old.nodes head.index ≡ Some (lam_node made body) }
+    requires moves { IsMove levels.old.items fixed.old depth }
+    requires valid { IsValid heap.old head.index (length levels.old.items) }
+    requires args { AllValidAt heap.old (reverse args.old.items) depth }
+    ensures turn { IfOk result (λ w. IsTurn depth heap.old heap.new head.index levels.old.items levels.new.items fixed.new args.old.items args.new.items w) }
+    ensures grows { Grows heap.old heap.new [] [] }
+{
+    heap.is_sound();
+    match first_of(heap, args.as_slice()) {
+        Readiness::Level(k) => {
+            args.pop();
+            levels.truncate(made);
+            levels.push(k)?;
+            *fixed = (*fixed).min(made);
+            Ok(Turn::Goes(body))
+        }
+        Readiness::Unready => {
+            let form = held(alloc, heap, head, made, body, levels, *fixed, depth, args.as_slice())?;
+            Ok(Turn::Ends(form))
+        }
+        Readiness::Unknown => Err(AllocError),
+    }
+}
+
+/// Whether the first argument is ready, as far as a look can say. Without an argument, none is.
+fn first_of(heap: &Heap, args: &[TermId]) -> Readiness
+    ensures { (depth : ℕ) → AllValidAt heap.now (reverse args.now) depth → IsFirst heap.now depth (reverse args.now) result }
+{
+    heap.is_sound();
+    match args.last() {
+        Some(arg) => looked_at(heap, *arg),
+        None => Readiness::Unready,
+    }
+}
+
+/// A turn: what is at the head is taken apart, or the form is found.
+fn one_turn(
+    alloc: Global,
+    heap: &mut Heap,
+    head: TermId,
+    depth: usize,
+    levels: &mut Vec<usize>,
+    fixed: &mut usize,
+    args: &mut Vec<TermId>,
+) -> Result<Turn, AllocError>
+    requires moves { IsMove levels.old.items fixed.old depth }
+    requires valid { IsValid heap.old head.index (length levels.old.items) }
+    requires args { AllValidAt heap.old (reverse args.old.items) depth }
+    ensures turn { IfOk result (λ w. IsTurn depth heap.old heap.new head.index levels.old.items levels.new.items fixed.new args.old.items args.new.items w) }
+    ensures grows { Grows heap.old heap.new [] [] }
+{
+    heap.is_sound();
+    match heap.view(head) {
+        Node::Con(c) => {
+            let form = rigid(alloc, heap, head, RigidHead::Con(*c), levels.as_slice(), depth, args.as_slice())?;
+            Ok(Turn::Ends(form))
+        }
+        Node::Int(n) => {
+            let form = rigid(alloc, heap, head, RigidHead::Int(*n), levels.as_slice(), depth, args.as_slice())?;
+            Ok(Turn::Ends(form))
+        }
+        Node::Str(s) => {
+            let form = rigid(alloc, heap, head, RigidHead::Str(*s), levels.as_slice(), depth, args.as_slice())?;
+            Ok(Turn::Ends(form))
+        }
+        Node::Level(l) => {
+            let name = RigidHead::Level(levels[*l]);
+            let form = rigid(alloc, heap, head, name, levels.as_slice(), depth, args.as_slice())?;
+            Ok(Turn::Ends(form))
+        }
+        Node::Lam { depth: made, body } => {
+            let made = *made;
+            let body = *body;
+            turn_lam(alloc, heap, head, made, body, depth, levels, fixed, args)
+        }
+        Node::App { head: inner, args: list } => {
+            let inner = *inner;
+            let count = list.len();
+            push_args(alloc, heap, levels.as_slice(), *fixed, depth, head, count, args)?;
+            Ok(Turn::Goes(inner))
+        }
+        Node::Var(v) => {
+            let v = *v;
+            turn_var(alloc, heap, head, v, depth, levels.as_slice(), *fixed, args.as_slice())
+        }
+    }
+}
+
+/// A turn at a variable.
+fn turn_var(
+    alloc: Global,
+    heap: &mut Heap,
+    head: TermId,
+    v: VarId,
+    depth: usize,
+    levels: &[usize],
+    fixed: usize,
+    args: &[TermId],
+) -> Result<Turn, AllocError>
+    requires here { node_at heap.old.nodes head.index ≡ Some (var_node v) }
+    requires moves { IsMove levels.now fixed depth }
+    requires valid { IsValid heap.old head.index (length levels.now) }
+    ensures turn { IfOk result (λ w. IsTurn depth heap.old heap.new head.index levels.now levels.now fixed args.now args.now w) }
+    ensures grows { Grows heap.old heap.new [] [] }
+{
+    heap.is_sound();
+    if let Some(value) = heap.value(v) {
+        return Ok(Turn::Goes(value));
+    }
+    let count = heap.var_depth(v);
+    let form = flex(alloc, heap, head, v, count, levels, depth, args)?;
+    Ok(Turn::Ends(form))
 }

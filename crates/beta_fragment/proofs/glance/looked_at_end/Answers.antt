@@ -3,7 +3,7 @@ use Rattle.beta_fragment.specs.Names.{names}
 use Rattle.level_terms.specs.Reading.{read}
 use Rattle.beta_fragment.proofs.MakeLemmas.{parts-there}
 use Rattle.beta_fragment.proofs.EnterLemmas.{names-places}
-use Rattle.beta_fragment.proofs.StayLemmas.{app-long}
+use Rattle.beta_fragment.proofs.StayLemmas.{app-long, level-low}
 use Rattle.beta_fragment.proofs.FirmLemmas.{firm-unready, abstraction-unready, reads-level, plain-unready}
 use Rattle.beta_fragment.proofs.glance.looked_at_end.Goals as goal
 
@@ -11,7 +11,7 @@ pub is_plain-requires : goal.is_plain-requires
 is_plain-requires c = (parts-there c.args.heap.now c.args.t.index _ c.is_sound.ensures (c.view.ensures ∙ ap Some c.in-App.is)).0
 
 pub returns-in-Level : goal.returns-in-Level
-returns-in-Level c = λ s v. reads-level c.args.heap.now c.args.t.index c.in-Level.l c.is_sound.ensures (c.view.ensures ∙ ap Some c.in-Level.is) names names-places
+returns-in-Level c = λ s v. (reads-level c.args.heap.now c.args.t.index c.in-Level.l c.is_sound.ensures (c.view.ensures ∙ ap Some c.in-Level.is) names names-places, level-low c.args.heap.now c.args.t.index c.in-Level.l s c.is_sound.ensures (c.view.ensures ∙ ap Some c.in-Level.is) v)
 
 pub returns-in-App : goal.returns-in-App
 returns-in-App c = λ s v. plain-unready c.args.heap.now c.args.t.index c.in-App.head _ c.is_sound.ensures (c.view.ensures ∙ ap Some c.in-App.is) (c.is_plain.ensures c.if-is_plain.true) (app-long c.args.heap.now c.args.t.index c.in-App.head _ c.is_sound.ensures (c.view.ensures ∙ ap Some c.in-App.is)) names names-places
