@@ -133,13 +133,13 @@ lam-same g t made b s fixed depth ls sound e v f m = readings_local g t made nam
 pub lam-same_valid : (g : Graph) (t made : ℕ) (b : TermId) (s fixed depth : ℕ) (ls : List ℕ) → IsSound g → node_at g.nodes t ≡ Some (Lam made b) → IsValid g t s → made ≤ fixed → IsMove ls fixed depth → IsValid g t depth
 lam-same_valid g t made b s fixed depth ls sound e v f m = valid_deeper g t made depth (lam-stays g t made b s sound e v) (let low = m.low in omega (arith, f, low))
 
-take-front : (ls more : List ℕ) (n i : ℕ) → n ≤ length ls → i < n → slice_index (take n ls ++ more) i ≡ slice_index ls i
+pub take-front : (ls more : List ℕ) (n i : ℕ) → n ≤ length ls → i < n → slice_index (take n ls ++ more) i ≡ slice_index ls i
 take-front [] more n i f h = absurd (omega (arith, f, h))
 take-front (x ∷ ls) more zero i f h = absurd (omega (arith, h))
 take-front (x ∷ ls) more (suc n) zero f h = refl
 take-front (x ∷ ls) more (suc n) (suc i) f h = take-front ls more n i (omega (arith, f)) (omega (arith, h))
 
-take-next : (ls : List ℕ) (x n : ℕ) → n ≤ length ls → slice_index (take n ls ++ x ∷ []) n ≡ x
+pub take-next : (ls : List ℕ) (x n : ℕ) → n ≤ length ls → slice_index (take n ls ++ x ∷ []) n ≡ x
 take-next ls x zero f = refl
 take-next [] x (suc n) f = absurd (omega (arith, f))
 take-next (y ∷ ls) x (suc n) f = take-next ls x n (omega (arith, f))

@@ -10,3 +10,5 @@ pub mod SplitLemmas
 pub mod LiftLemmas
 pub mod FirmLemmas
 pub mod HeadLemmas
+pub mod TurnLemmas
+pub mod FirstLemmas

@@ -268,7 +268,7 @@ fn turn_lam(
     ensures grows { Grows heap.old heap.new [] [] }
 {
     heap.is_sound();
-    match first_of(heap, args.as_slice()) {
+    match first_of(heap, args.as_slice(), depth) {
         Readiness::Level(k) => {
             args.pop();
             levels.truncate(made);
@@ -285,8 +285,9 @@ fn turn_lam(
 }
 
 /// Whether the first argument is ready, as far as a look can say. Without an argument, none is.
-fn first_of(heap: &Heap, args: &[TermId]) -> Readiness
-    ensures { (depth : ℕ) → AllValidAt heap.now (reverse args.now) depth → IsFirst heap.now depth (reverse args.now) result }
+fn first_of(heap: &Heap, args: &[TermId], depth: usize) -> Readiness
+    requires { AllValidAt heap.now (reverse args.now) depth }
+    ensures { IsFirst heap.now depth (reverse args.now) result }
 {
     heap.is_sound();
     match args.last() {

@@ -14,4 +14,4 @@ pub returns-then-is_free : goal.returns-then-is_free
 returns-then-is_free c =
     let here = c.view.ensures ∙ ap Some c.in-Var.is in
     let free = c.is_free.ensures c.if-is_free.true in
-    (var-known c.args.heap.now c.args.t.index c.in-Var.v c.is_sound.ensures here, free, ?)
+    (var-known c.args.heap.now c.args.t.index c.in-Var.v c.is_sound.ensures here, free, subst (λ n. IsVarOf c.in-Var.v.index n (value_of c.args.heap.now c.args.t)) (sym c.var_depth.ensures ∙ c.if-var_depth-count.true) (var-open c.args.heap.now c.args.t c.in-Var.v c.is_sound.ensures here free))

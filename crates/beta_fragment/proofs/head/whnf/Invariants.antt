@@ -8,8 +8,8 @@ use Rattle.beta_fragment.specs.Moves.{IsMove}
 use Rattle.beta_fragment.specs.Firm.{IsSpine}
 use Rattle.beta_fragment.proofs.head.whnf.Given as goal
 
-abbrev pub invariant-loop : goal.invariant-loop
-invariant-loop l = record {
+abbrev pub invariant-loop-args : goal.invariant-loop-args
+invariant-loop-args l = record {
   spine : IsSpine l.heap l.depth (read l.fn.heap l.fn.t.index names) l.head.index l.levels.items l.args.items;
   moves : IsMove l.levels.items l.fixed l.depth;
   valid : IsValid l.heap l.head.index (length l.levels.items);
@@ -17,5 +17,5 @@ invariant-loop l = record {
   grows : Grows l.fn.heap l.heap [] [];
 }
 
-abbrev pub decreases-loop : goal.decreases-loop
-decreases-loop l = tree_size (tree l.fn.heap l.head.index)
+abbrev pub decreases-loop-args : goal.decreases-loop-args
+decreases-loop-args l = tree_size (tree l.fn.heap l.head.index)
