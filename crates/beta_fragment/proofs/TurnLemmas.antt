@@ -1,14 +1,14 @@
 -- Turns.
 use Rattle.std.proofs.Common.{◌≡◌, ℕ, zero, suc, ◌<◌, ◌≤◌, ◌-◌, ◌+◌, ◌++◌, List, [], ◌∷◌, length, map, take, reverse, slice_index, cond, nat_eq, Bool, true, false, Option, Some, None, IfSome, min, refl, sym, ap, ap₂, ◌∙◌, arith, subst, eqb-true}
 use Rattle.level_terms.specs.declared.node.Node.{Node}
-use Rattle.level_terms.specs.declared.node.Node.TheVariants.{Lam, App, Var}
+use Rattle.level_terms.specs.declared.node.Node.TheVariants.{Lam, App, Var, Level as node_level}
 use Rattle.level_terms.specs.declared.node.TermId.{TermId}
 use Rattle.level_terms.specs.declared.node.VarId.{VarId}
 use Rattle.level_terms.specs.Graph.{Graph, node_at, value_in}
 use Rattle.level_terms.specs.Laws.{ArePlaces}
 use Rattle.level_terms.specs.Sound.{IsSound}
 use Rattle.level_terms.specs.Valid.{IsValid}
-use Rattle.level_terms.specs.Reading.{read, enter}
+use Rattle.level_terms.specs.Reading.{read, enter, node_reads}
 use Rattle.level_terms.specs.Growth.{Grows}
 use Rattle.level_terms.specs.Reached.{tree, tree_size}
 use Rattle.level_terms.proofs.LocalLemmas.{readings_local, step_down}
@@ -26,13 +26,19 @@ use Rattle.beta_fragment.specs.Names.{names, renamed, AllBelow}
 use Rattle.beta_fragment.specs.Moves.{IsMove}
 use Rattle.beta_fragment.specs.HeadForm.{AllValidAt, all_read, FirstUnready}
 use Rattle.beta_fragment.specs.Firm.{IsSpine}
-use Rattle.beta_fragment.specs.Turn.{GoesOn, NoneReady}
+use Rattle.beta_fragment.specs.Turn.{GoesOn, NoneReady, IsFirst}
+use Rattle.beta_fragment.specs.Spine.{args_in}
+use Rattle.beta_fragment.specs.declared.glance.Readiness.TheVariants.{Level}
+use Rattle.std.specs.Option.{option_to_list}
+use Rattle.std.proofs.Common.{get_or}
+use Rattle.std.proofs.lemmas.Grind.{get_or_default_zero}
+use Rattle.beta_fragment.proofs.SplitLemmas.{empty-list}
 use Rattle.beta_fragment.proofs.ReadLemmas.{valid-below, grown-reads}
 use Rattle.beta_fragment.proofs.EnterLemmas.{body-applied, body-valid}
 use Rattle.beta_fragment.proofs.MakeLemmas.{apply_all-append, parts-there}
 use Rattle.beta_fragment.proofs.MoveLemmas.{node-before, assigned-before, app-valid}
 use Rattle.beta_fragment.proofs.VarLemmas.{var-known}
-use Rattle.beta_fragment.proofs.StayLemmas.{var-low}
+use Rattle.beta_fragment.proofs.StayLemmas.{var-low, level-low}
 use Rattle.beta_fragment.proofs.WorkLemmas.{app-size, lam-size, total}
 use Rattle.beta_fragment.proofs.FirmLemmas.{reads-value}
 use Rattle.beta_fragment.proofs.HeadLemmas.{renamed-places, take-front, take-next, take-more, lam-within, newest-arg, valid-grown_all, read-grown_all}
@@ -127,3 +133,43 @@ app-turn g h depth head inner ts ls fixed args args' s w e valid m reads valids 
 pub unready-first : (g h : Graph) (depth : ℕ) (args : List TermId) → IsSound g → Grows g h [] [] → AllValidAt g args depth → (0 < length args) → NoneReady g args → FirstUnready h args
 unready-first g h depth [] s w v l n = omega (arith, l)
 unready-first g h depth (a ∷ args) s w v l n = ap (λ r. ready (r names)) (grown-reads g h s w a.index (valid-below g a.index depth v.0)) ∙ n
+
+-- the last of a list that isn't empty
+pub pop-split : (g : Graph) (depth k : ℕ) (items items' : List TermId) (o : Option TermId) → items ≡ items' ++ option_to_list o → (o ≡ None → length items ≡ 0) → IsFirst g depth (reverse items) (Level k) → (a : TermId) × (items ≡ items' ++ a ∷ []) × (read g a.index names ≡ names k) × (k < depth)
+pop-split g depth k items items' None e z f = absurd (subst (λ ts. IsFirst g depth (reverse ts) (Level k)) (empty-list items (z refl)) f)
+pop-split g depth k items items' (Some a) e z f =
+    let order : reverse items ≡ a ∷ reverse items' = ap reverse e ∙ newest-arg items' a in
+    let first = subst (λ ts. IsFirst g depth ts (Level k)) order f in
+    (a, e, first.0, first.1)
+
+-- a level's name
+pub level-reads : (g : Graph) (t l n : ℕ) (ls : List ℕ) → IsSound g → node_at g.nodes t ≡ Some (node_level l) → IsValid g t (length ls) → n ≡ get_or ls l n → read g t (renamed ls) ≡ names n
+level-reads g t l n ls s e v q = nodes_read g t (node_level l) (renamed ls) s (renamed-places ls) e ∙ ap names (sym (q ∙ get_or_default_zero ls l n (level-low g t l (length ls) s e v)))
+
+pub leaf-reads : (g : Graph) (t : ℕ) (n : Node) (ls : List ℕ) (h : term.Head) → IsSound g → node_at g.nodes t ≡ Some n → node_reads g n (renamed ls) ≡ At h → read g t (renamed ls) ≡ At h
+leaf-reads g t n ls h s e q = nodes_read g t n (renamed ls) s (renamed-places ls) e ∙ q
+
+-- the arguments of an application
+pub args-valid : (g : Graph) (t s : ℕ) (k : TermId) (ts : List TermId) → IsSound g → node_at g.nodes t ≡ Some (App k ts) → IsValid g t s → AllValidAt g (args_in (node_at g.nodes t)) s
+args-valid g t s k ts sound e v = subst (λ o. AllValidAt g (args_in o) s) (sym e) (app-valid g t s k ts sound e v).1
+
+pub app-turn-at : (g h : Graph) (depth head : ℕ) (inner : TermId) (ts : List TermId) (ls slice : List ℕ) (fixed : ℕ) (args args' : List TermId) → IsSound g → Grows g h [] [] → node_at g.nodes head ≡ Some (App inner ts) → IsValid g head (length ls) → IsMove ls fixed depth → slice ≡ ls →
+    all_read h (reverse args') ≡ map (λ a. read g a.index (renamed slice)) (args_in (node_at g.nodes head)) ++ all_read g (reverse args) → AllValidAt h (reverse args') depth → GoesOn depth g h head inner.index ls ls fixed args args'
+app-turn-at g h depth head inner ts ls slice fixed args args' s w e valid m q reads valids =
+    app-turn g h depth head inner ts ls fixed args args' s w e valid m
+    (reads ∙ ap₂ (λ (zs : List ℕ) (us : List TermId). map (λ a. read g a.index (renamed zs)) us ++ all_read g (reverse args)) q (ap args_in e)) valids
+
+-- at first the levels are their own names
+pub first-spine : (g : Graph) (depth t : ℕ) (ls : List ℕ) (args : List TermId) → IsValid g t depth → ((i : ℕ) → i < depth → slice_index ls i ≡ i) → args ≡ [] → IsSpine g depth (read g t names) t ls args
+first-spine g depth t ls args v own e = record {
+  reads = readings_local g t depth names (renamed ls) v (λ i h. ap names (sym (own i h))) ∙ ap (λ zs. apply_all (read g t (renamed ls)) (all_read g (reverse zs))) (sym e);
+  valid = subst (λ zs. AllValidAt g (reverse zs) depth) (sym e) tt;
+}
+
+pub first-moves : (depth : ℕ) (ls : List ℕ) → length ls ≡ depth → ((i : ℕ) → i < depth → slice_index ls i ≡ i) → IsMove ls depth depth
+first-moves depth ls long own = record {
+  below = λ i h. (let lt : i < depth = omega (arith, h, long) in subst (λ k. k < depth) (sym (own i lt)) lt);
+  few = omega (arith, long);
+  low = omega arith;
+  stay = own;
+}

@@ -125,6 +125,13 @@ fn in_order(alloc: Global, first: &[TermId], stack: &[TermId]) -> Result<TermIds
     Ok(list)
 }
 
+/// The head that is an integer.
+fn int_head(n: i64) -> RigidHead
+    ensures { result ≡ RigidHead.Int n }
+{
+    RigidHead::Int(n)
+}
+
 /// The form of a head that no assignment changes.
 fn rigid(alloc: Global, heap: &Heap, t: TermId, head: RigidHead, levels: &[usize], depth: usize, args: &[TermId]) -> Result<Whnf, AllocError>
     requires head { read heap.now t.index (renamed levels.now) ≡ term.At (rigid_head head) }
@@ -319,7 +326,9 @@ fn one_turn(
             Ok(Turn::Ends(form))
         }
         Node::Int(n) => {
-            let form = rigid(alloc, heap, head, RigidHead::Int(*n), levels.as_slice(), depth, args.as_slice())?;
+            let n = *n;
+            let name = int_head(n);
+            let form = rigid(alloc, heap, head, name, levels.as_slice(), depth, args.as_slice())?;
             Ok(Turn::Ends(form))
         }
         Node::Str(s) => {
