@@ -12,3 +12,4 @@ pub mod FirmLemmas
 pub mod HeadLemmas
 pub mod TurnLemmas
 pub mod FirstLemmas
+pub mod OpenLemmas

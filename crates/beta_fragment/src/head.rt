@@ -57,7 +57,7 @@ enum Turn {
 }
 
 /// The levels below a depth, each for its own name.
-fn own_levels(alloc: Global, depth: usize) -> Result<Vec<usize>, AllocError>
+pub(crate) fn own_levels(alloc: Global, depth: usize) -> Result<Vec<usize>, AllocError>
     ensures count { IfOk result (λ levels. length levels.items ≡ depth) }
     ensures own { IfOk result (λ levels. (i : ℕ) → i < depth → slice_index levels.items i ≡ i) }
 {
