@@ -78,7 +78,7 @@ var-plain g t v s e f = by-node IsPlain g t (Var v) s e (λ env p. subst (λ o. 
 pub var-firm : (g : Graph) (t : ℕ) (v : VarId) → IsSound g → node_at g.nodes t ≡ Some (Var v) → value_in g.assigned v.index ≡ None → IsFirmNode g t
 var-firm g t v s e f = by-node IsFirm g t (Var v) s e (λ env p. subst (λ o. IsFirm (variable_reads g v.index o env)) (sym f)
     (firm-plain (apply_all (At (term.Var v.index)) (levels (slice_index g.depths v.index) env)) (apply_all-plain (levels (slice_index g.depths v.index) env) (At (term.Var v.index)) tt)
-      (subst IsFirmHead (sym (apply_all-head (levels (slice_index g.depths v.index) env) (At (term.Var v.index)) tt)) tt)))
+    (subst IsFirmHead (sym (apply_all-head (levels (slice_index g.depths v.index) env) (At (term.Var v.index)) tt)) tt)))
 
 pub app-firm : (g : Graph) (t : ℕ) (k : TermId) (ts : List TermId) → IsSound g → node_at g.nodes t ≡ Some (App k ts) → IsPlainNode g k.index → IsFirmNode g k.index → IsFirmNode g t
 app-firm g t k ts s e plain firm = by-node IsFirm g t (App k ts) s e (λ env p.
@@ -209,12 +209,12 @@ pub app-ends : (g : Graph) (t depth : ℕ) (k u : TermId) (ts front : List TermI
 app-ends g t depth k u ts front s e split w h env p =
     let env' = enter depth env in
     ap eta (nodes_read g t (App k ts) (enter depth env) s (places-enter depth env p) e
-      ∙ ap (λ (us : List TermId). apply_all (read g k.index (enter depth env)) (map (λ z. read g z.index (enter depth env)) us)) split
-      ∙ ap (apply_all (read g k.index (enter depth env))) (map-append (λ z. read g z.index (enter depth env)) front (u ∷ []))
-      ∙ apply_all-end (map (λ z. read g z.index (enter depth env)) front) (read g k.index (enter depth env)) (read g u.index (enter depth env)))
+    ∙ ap (λ (us : List TermId). apply_all (read g k.index (enter depth env)) (map (λ z. read g z.index (enter depth env)) us)) split
+    ∙ ap (apply_all (read g k.index (enter depth env))) (map-append (λ z. read g z.index (enter depth env)) front (u ∷ []))
+    ∙ apply_all-end (map (λ z. read g z.index (enter depth env)) front) (read g k.index (enter depth env)) (read g u.index (enter depth env)))
     ∙ eta-app (apply_all (read g k.index (enter depth env)) (map (λ z. read g z.index (enter depth env)) front)) (read g u.index (enter depth env))
-      (apply_all-plain (map (λ z. read g z.index (enter depth env)) front) (read g k.index (enter depth env)) (w (enter depth env) (places-enter depth env p)))
-      (h env p)
+    (apply_all-plain (map (λ z. read g z.index (enter depth env)) front) (read g k.index (enter depth env)) (w (enter depth env) (places-enter depth env p)))
+    (h env p)
 
 last-of : (ts : List TermId) (u : TermId) (i : ℕ) → suc i ≡ length ts → Some u ≡ slice_get ts i → (front : List TermId) × (ts ≡ front ++ u ∷ [])
 last-of [] u i l e = absurd (omega (arith, l))

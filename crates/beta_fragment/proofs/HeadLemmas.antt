@@ -108,17 +108,18 @@ flex-reads g h depth count u t v ls args first list sound w m few all levels_of 
     let long' : length (map (value_of h) first) ≡ count = length-map first (value_of h) ∙ long in
     let kept = read-grown_all g h depth sound w (reverse args) spine.valid in
     let firsts : all_read h first ≡ levels count (renamed ls) =
-        sym (terms-read h first) ∙ levels-terms ls (length ls) depth 0 (map (value_of h) first) levels_of names names-places
-        ∙ ap (λ n. levels n (λ i. moved ls (length ls) depth names (0 + i))) long'
-        ∙ levels-agree count (λ i. moved ls (length ls) depth names (0 + i)) (renamed ls) (λ i k. ap names (ap (moved_level ls (length ls) depth) (let q : 0 + i ≡ i = omega arith in q) ∙ moved-name ls depth i (omega (arith, k, few)))) in
-    ( subst (λ ts. AllValidAt h ts depth) (sym e)
-        (valid-append h depth first (reverse args)
+    sym (terms-read h first) ∙ levels-terms ls (length ls) depth 0 (map (value_of h) first) levels_of names names-places
+    ∙ ap (λ n. levels n (λ i. moved ls (length ls) depth names (0 + i))) long'
+    ∙ levels-agree count (λ i. moved ls (length ls) depth names (0 + i)) (renamed ls) (λ i k. ap names (ap (moved_level ls (length ls) depth) (let q : 0 + i ≡ i = omega arith in q) ∙ moved-name ls depth i (omega (arith, k, few)))) in (
+      subst (λ ts. AllValidAt h ts depth) (sym e)
+          (valid-append h depth first (reverse args)
           (levels-valid h depth first (levels-hold ls (length ls) depth 0 (map (value_of h) first) levels_of depth (λ i k. subst (λ l. l < depth) (sym (moved-name ls depth i (omega (arith, k, few, long')))) (all i (omega (arith, k, few, long'))))))
-          (valid-grown_all g h depth sound w (reverse args) spine.valid))
-    , spine.reads
-        ∙ ap (λ f. apply_all f (all_read g (reverse args))) (m.term (renamed ls) (renamed-places ls))
-        ∙ sym (apply_all-append (levels count (renamed ls)) (all_read g (reverse args)) (At (term.Var v)))
-        ∙ ap (apply_all (At (term.Var v))) (ap₂ (λ (xs ys : List Term). xs ++ ys) (sym firsts) (sym kept) ∙ sym (map-append (λ (z : TermId). read h z.index names) first (reverse args)) ∙ ap (all_read h) (sym e)))
+          (valid-grown_all g h depth sound w (reverse args) spine.valid)),
+      spine.reads
+          ∙ ap (λ f. apply_all f (all_read g (reverse args))) (m.term (renamed ls) (renamed-places ls))
+          ∙ sym (apply_all-append (levels count (renamed ls)) (all_read g (reverse args)) (At (term.Var v)))
+          ∙ ap (apply_all (At (term.Var v))) (ap₂ (λ (xs ys : List Term). xs ++ ys) (sym firsts) (sym kept) ∙ sym (map-append (λ (z : TermId). read h z.index names) first (reverse args)) ∙ ap (all_read h) (sym e)),
+    )
 
 -- abstractions
 lam-low : (g : Graph) (t d : ℕ) (b : TermId) (s : ℕ) → IsSound g → node_at g.nodes t ≡ Some (Lam d b) → IsValid g t s → d ≤ s
@@ -153,12 +154,13 @@ pub lam-renamed : (g : Graph) (t made : ℕ) (b : TermId) (depth inner : ℕ) (l
     Moves g more inner b.index (length more) (length more) y → IsLamOf depth y x → (x.term names ≡ read g t (renamed ls)) × (x.holds depth ≡ true)
 lam-renamed g t made b depth inner ls more y x sound e v all q r m w =
     let low = lam-low g t made b (length ls) sound e v in
-    let long : length more ≡ suc made = ap length q ∙ take-more ls depth made low in
-    ( w.term names names-places
-        ∙ ap lam (m.term (enter depth names) (places-enter depth names names-places)
+    let long : length more ≡ suc made = ap length q ∙ take-more ls depth made low in (
+      w.term names names-places
+          ∙ ap lam (m.term (enter depth names) (places-enter depth names names-places)
           ∙ readings_local g b.index (suc made) (moved more (length more) inner (enter depth names)) (enter made (renamed ls)) (body-valid g sound t made b (length ls) e v) (same low long))
-        ∙ sym (nodes_read g t (Lam made b) (renamed ls) sound (renamed-places ls) e)
-    , w.holds (m.holds (depth + 1) (omega (arith, r))) depth (omega arith))
+          ∙ sym (nodes_read g t (Lam made b) (renamed ls) sound (renamed-places ls) e),
+      w.holds (m.holds (depth + 1) (omega (arith, r))) depth (omega arith),
+    )
   where
     level : (i : ℕ) → i < length more → moved more (length more) inner (enter depth names) i ≡ enter depth names (slice_index more i)
     level i h = ap (enter depth names) (moved-name more inner i h)

@@ -57,9 +57,9 @@ value-turn g depth head value v ls fixed args s e f vv valid m = record {
   moves = m;
   valid = valid_deeper g value (slice_index g.depths v.index) (length ls) vv (var-low g head v (length ls) s e valid);
   less = λ g' sg gr below.
-    let here = node-before g' g gr head (Var v) below e in
-    let has = sym (assigned-before g' g gr v.index) ∙ f in
-    (valid-below g' value (slice_index g'.depths v.index) (value-valid g'.nodes g'.depths g'.assigned sg.valid v.index value has), value_below g' sg head v.index value v refl here has);
+      let here = node-before g' g gr head (Var v) below e in
+      let has = sym (assigned-before g' g gr v.index) ∙ f in
+      (valid-below g' value (slice_index g'.depths v.index) (value-valid g'.nodes g'.depths g'.assigned sg.valid v.index value has), value_below g' sg head v.index value v refl here has);
 }
 
 -- an abstraction takes a name
@@ -72,11 +72,11 @@ lam-turn g depth head made body k a ls more fixed fixed' args args' s e valid m 
     record {
       spine = λ u w. record {
         reads = w.reads
-          ∙ ap (λ zs. apply_all (read g head (renamed ls)) (all_read g zs)) order
-          ∙ ap (λ z. apply_all z (all_read g (reverse args')))
+            ∙ ap (λ zs. apply_all (read g head (renamed ls)) (all_read g zs)) order
+            ∙ ap (λ z. apply_all z (all_read g (reverse args')))
             (ap (apply (read g head (renamed ls))) name
-              ∙ body-applied g s head made body e (renamed ls) (renamed-places ls) (names k) tt
-              ∙ readings_local g body.index (suc made) (at_level made (names k) (renamed ls)) (renamed more) (body-valid g s head made body (length ls) e valid) (same within));
+            ∙ body-applied g s head made body e (renamed ls) (renamed-places ls) (names k) tt
+            ∙ readings_local g body.index (suc made) (at_level made (names k) (renamed ls)) (renamed more) (body-valid g s head made body (length ls) e valid) (same within));
         valid = (subst (λ zs. AllValidAt g zs depth) order w.valid).1;
       };
       moves = record {
@@ -87,8 +87,8 @@ lam-turn g depth head made body k a ls more fixed fixed' args args' s e valid m 
       };
       valid = subst (IsValid g body.index) (sym long) (body-valid g s head made body (length ls) e valid);
       less = λ g' sg gr below.
-        let here = node-before g' g gr head (Lam made body) below e in
-        ((parts-there g' head (Lam made body) sg here).0, lam-size g' head made body sg here);
+          let here = node-before g' g gr head (Lam made body) below e in
+          ((parts-there g' head (Lam made body) sg here).0, lam-size g' head made body sg here);
     }
   where
     same : made ≤ length ls → (i : ℕ) → i < suc made → at_level made (names k) (renamed ls) i ≡ renamed more i
@@ -116,17 +116,17 @@ app-turn g h depth head inner ts ls fixed args args' s w e valid m reads valids 
     record {
       spine = λ u k. record {
         reads = k.reads
-          ∙ ap (λ z. apply_all z (all_read g (reverse args))) (nodes_read g head (App inner ts) (renamed ls) s (renamed-places ls) e)
-          ∙ sym (apply_all-append (map (λ a. read g a.index (renamed ls)) ts) (all_read g (reverse args)) (read g inner.index (renamed ls)))
-          ∙ ap₂ apply_all (ap (λ r. r (renamed ls)) (sym (grown-reads g h s w inner.index there))) (sym reads);
+            ∙ ap (λ z. apply_all z (all_read g (reverse args))) (nodes_read g head (App inner ts) (renamed ls) s (renamed-places ls) e)
+            ∙ sym (apply_all-append (map (λ a. read g a.index (renamed ls)) ts) (all_read g (reverse args)) (read g inner.index (renamed ls)))
+            ∙ ap₂ apply_all (ap (λ r. r (renamed ls)) (sym (grown-reads g h s w inner.index there))) (sym reads);
         valid = valids;
       };
       moves = m;
       valid = growth_keeps_valid g h [] [] inner.index (length ls) s w there inside;
       less = λ g' sg gr below.
-        let here = node-before g' g gr head (App inner ts) below e in
-        let size = app-size g' head inner ts sg here in
-        ((parts-there g' head (App inner ts) sg here).0, omega (arith, size));
+          let here = node-before g' g gr head (App inner ts) below e in
+          let size = app-size g' head inner ts sg here in
+          ((parts-there g' head (App inner ts) sg here).0, omega (arith, size));
     }
 
 -- an abstraction stays at the head

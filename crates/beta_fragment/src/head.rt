@@ -22,7 +22,7 @@ ghost use Rattle.beta_fragment.specs.Body.{IsLam};
 ghost use Rattle.beta_fragment.specs.Turn.{IsTurn, NoneReady, IsFirst};
 
 use crate::answer::{RigidHead, Whnf};
-use crate::glance::{bare_var_of, is_abstraction, looked_at, Readiness};
+use crate::glance::{Readiness, bare_var_of, is_abstraction, looked_at};
 use crate::renaming::{made_lam, moved_levels, moved_node, sum_of};
 use level_terms::{Heap, Node, TermId, TermIds, VarId};
 use std::alloc::{AllocError, Global};
@@ -133,7 +133,15 @@ fn int_head(n: i64) -> RigidHead
 }
 
 /// The form of a head that no assignment changes.
-fn rigid(alloc: Global, heap: &Heap, t: TermId, head: RigidHead, levels: &[usize], depth: usize, args: &[TermId]) -> Result<Whnf, AllocError>
+fn rigid(
+    alloc: Global,
+    heap: &Heap,
+    t: TermId,
+    head: RigidHead,
+    levels: &[usize],
+    depth: usize,
+    args: &[TermId],
+) -> Result<Whnf, AllocError>
     requires head { read heap.now t.index (renamed levels.now) ≡ term.At (rigid_head head) }
     ensures { IfOk result (λ w. (u : Term) → IsSpine heap.now depth u t.index levels.now args.now → IsHeadForm heap.now depth u w) }
 {
@@ -284,7 +292,17 @@ fn turn_lam(
             Ok(Turn::Goes(body))
         }
         Readiness::Unready => {
-            let form = held(alloc, heap, head, made, body, levels, *fixed, depth, args.as_slice())?;
+            let form = held(
+                alloc,
+                heap,
+                head,
+                made,
+                body,
+                levels,
+                *fixed,
+                depth,
+                args.as_slice(),
+            )?;
             Ok(Turn::Ends(form))
         }
         Readiness::Unknown => Err(AllocError),
@@ -322,22 +340,54 @@ fn one_turn(
     heap.is_sound();
     match heap.view(head) {
         Node::Con(c) => {
-            let form = rigid(alloc, heap, head, RigidHead::Con(*c), levels.as_slice(), depth, args.as_slice())?;
+            let form = rigid(
+                alloc,
+                heap,
+                head,
+                RigidHead::Con(*c),
+                levels.as_slice(),
+                depth,
+                args.as_slice(),
+            )?;
             Ok(Turn::Ends(form))
         }
         Node::Int(n) => {
             let n = *n;
             let name = int_head(n);
-            let form = rigid(alloc, heap, head, name, levels.as_slice(), depth, args.as_slice())?;
+            let form = rigid(
+                alloc,
+                heap,
+                head,
+                name,
+                levels.as_slice(),
+                depth,
+                args.as_slice(),
+            )?;
             Ok(Turn::Ends(form))
         }
         Node::Str(s) => {
-            let form = rigid(alloc, heap, head, RigidHead::Str(*s), levels.as_slice(), depth, args.as_slice())?;
+            let form = rigid(
+                alloc,
+                heap,
+                head,
+                RigidHead::Str(*s),
+                levels.as_slice(),
+                depth,
+                args.as_slice(),
+            )?;
             Ok(Turn::Ends(form))
         }
         Node::Level(l) => {
             let name = RigidHead::Level(levels[*l]);
-            let form = rigid(alloc, heap, head, name, levels.as_slice(), depth, args.as_slice())?;
+            let form = rigid(
+                alloc,
+                heap,
+                head,
+                name,
+                levels.as_slice(),
+                depth,
+                args.as_slice(),
+            )?;
             Ok(Turn::Ends(form))
         }
         Node::Lam { depth: made, body } => {
@@ -345,15 +395,36 @@ fn one_turn(
             let body = *body;
             turn_lam(alloc, heap, head, made, body, depth, levels, fixed, args)
         }
-        Node::App { head: inner, args: list } => {
+        Node::App {
+            head: inner,
+            args: list,
+        } => {
             let inner = *inner;
             let count = list.len();
-            push_args(alloc, heap, levels.as_slice(), *fixed, depth, head, count, args)?;
+            push_args(
+                alloc,
+                heap,
+                levels.as_slice(),
+                *fixed,
+                depth,
+                head,
+                count,
+                args,
+            )?;
             Ok(Turn::Goes(inner))
         }
         Node::Var(v) => {
             let v = *v;
-            turn_var(alloc, heap, head, v, depth, levels.as_slice(), *fixed, args.as_slice())
+            turn_var(
+                alloc,
+                heap,
+                head,
+                v,
+                depth,
+                levels.as_slice(),
+                *fixed,
+                args.as_slice(),
+            )
         }
     }
 }

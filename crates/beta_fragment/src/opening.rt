@@ -10,7 +10,7 @@ ghost use Rattle.level_terms.specs.Growth.{Grows};
 ghost use Rattle.beta_fragment.specs.Names.{names};
 ghost use Rattle.beta_fragment.specs.Body.{IsLam, opened_reads, at_name};
 
-use crate::glance::{looked_at, Readiness};
+use crate::glance::{Readiness, looked_at};
 use crate::head::own_levels;
 use crate::renaming::moved_node;
 use level_terms::{Heap, Node, TermId};
@@ -18,7 +18,13 @@ use std::alloc::{AllocError, Global};
 
 /// The abstraction's body with the argument for its bound name. Answers `AllocError` on want of
 /// memory alone.
-pub fn contract(alloc: Global, heap: &mut Heap, lam: TermId, arg: TermId, depth: usize) -> Result<TermId, AllocError>
+pub fn contract(
+    alloc: Global,
+    heap: &mut Heap,
+    lam: TermId,
+    arg: TermId,
+    depth: usize,
+) -> Result<TermId, AllocError>
     requires node { IsLam (node_at heap.old.nodes lam.index) }
     requires valid { IsValid heap.old lam.index depth }
     requires argument { IsValid heap.old arg.index depth }

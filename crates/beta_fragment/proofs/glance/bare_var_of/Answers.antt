@@ -18,7 +18,7 @@ loop-depth-preserved c =
     record {
       there = (parts-there c.args.heap.now c.loop-depth.node.index (Lam c.in-Lam.depth c.in-Lam.body) c.is_sound.ensures here).0;
       leads = λ v w. c.loop-depth.invariant.leads v (subst (λ d. IsVarOf v d (value_of c.args.heap.now c.loop-depth.node)) c.if-depth-count.false
-        (lam-var v c.in-Lam.depth (value_of c.args.heap.now c.in-Lam.body) (value_of c.args.heap.now c.loop-depth.node) (lam-known c.args.heap.now c.loop-depth.node c.in-Lam.depth c.in-Lam.body c.is_sound.ensures here)
+          (lam-var v c.in-Lam.depth (value_of c.args.heap.now c.in-Lam.body) (value_of c.args.heap.now c.loop-depth.node) (lam-known c.args.heap.now c.loop-depth.node c.in-Lam.depth c.in-Lam.body c.is_sound.ensures here)
           (subst (λ d. IsVarOf v d (value_of c.args.heap.now c.in-Lam.body)) next w)));
     }
 

@@ -17,7 +17,7 @@ returns-then-not-matches c = λ q s v.
     let here = c.view.ensures ∙ ap Some c.in-Lam.is in
     let valid = c.loop-depth.invariant.valid s v in
     c.loop-depth.invariant.leads (lam-abstraction c.args.heap.now c.loop-depth.node.index c.in-Lam.depth c.in-Lam.body c.is_sound.ensures here
-      (c.ends_otherwise.ensures q (suc c.in-Lam.depth) (body-valid c.args.heap.now c.is_sound.ensures c.loop-depth.node.index c.in-Lam.depth c.in-Lam.body valid.0 here valid.1)))
+    (c.ends_otherwise.ensures q (suc c.in-Lam.depth) (body-valid c.args.heap.now c.is_sound.ensures c.loop-depth.node.index c.in-Lam.depth c.in-Lam.body valid.0 here valid.1)))
 
 pub loop-depth-smaller : goal.loop-depth-smaller
 loop-depth-smaller c = (parts_older c.args.heap.now.nodes c.loop-depth.node.index (Lam c.in-Lam.depth c.in-Lam.body) (names_older (length c.args.heap.now.depths) c.args.heap.now.nodes c.is_sound.ensures.made) (c.view.ensures ∙ ap Some c.in-Lam.is)).0

@@ -11,8 +11,8 @@ loop-body-smaller c = (parts_older c.args.heap.now.nodes c.loop-body.node.index 
 pub loop-body-preserved : goal.loop-body-preserved
 loop-body-preserved c = record {
   there =
-    let less = (parts_older c.args.heap.now.nodes c.loop-body.node.index (Lam c.in-Lam.depth c.in-Lam.body) (names_older (length c.args.heap.now.depths) c.args.heap.now.nodes c.is_sound.ensures.made) (c.view.ensures ∙ ap Some c.in-Lam.is)).0 in
-    let there = c.loop-body.invariant.there in
-    omega (arith, less, there);
+      let less = (parts_older c.args.heap.now.nodes c.loop-body.node.index (Lam c.in-Lam.depth c.in-Lam.body) (names_older (length c.args.heap.now.depths) c.args.heap.now.nodes c.is_sound.ensures.made) (c.view.ensures ∙ ap Some c.in-Lam.is)).0 in
+      let there = c.loop-body.invariant.there in
+      omega (arith, less, there);
   leads = λ w. c.loop-body.invariant.leads (lam-firm c.args.heap.now c.loop-body.node.index c.in-Lam.depth c.in-Lam.body c.is_sound.ensures (c.view.ensures ∙ ap Some c.in-Lam.is) w);
 }

@@ -20,10 +20,10 @@ pub loop-v-preserved : goal.loop-v-preserved
 loop-v-preserved c = record {
   there = valid-below c.args.heap.now c.in-Some.value.index (slice_index c.args.heap.now.depths c.in-Var.v.index) c.in-Some.ensures.valid;
   valid = λ s v.
-    let before = c.loop-v.invariant.valid s v in
-    let deep = var-low c.args.heap.now c.loop-v.node.index c.in-Var.v before.0 c.is_sound.ensures (c.view.ensures ∙ ap Some c.in-Var.is) before.2 in
-    let less = before.1 in
-    (slice_index c.args.heap.now.depths c.in-Var.v.index, omega (arith, deep, less), c.in-Some.ensures.valid);
+      let before = c.loop-v.invariant.valid s v in
+      let deep = var-low c.args.heap.now c.loop-v.node.index c.in-Var.v before.0 c.is_sound.ensures (c.view.ensures ∙ ap Some c.in-Var.is) before.2 in
+      let less = before.1 in
+      (slice_index c.args.heap.now.depths c.in-Var.v.index, omega (arith, deep, less), c.in-Some.ensures.valid);
   same = c.loop-v.invariant.same ∙ reads-value c.args.heap.now c.loop-v.node.index c.in-Some.value.index c.in-Var.v c.is_sound.ensures (c.view.ensures ∙ ap Some c.in-Var.is) (sym c.in-Some.ensures.value) names names-places;
 }
 

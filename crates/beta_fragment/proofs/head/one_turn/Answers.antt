@@ -35,7 +35,7 @@ rigid-requires-in-Str c = record { head = leaf-reads c.args.heap.now c.args.head
 pub rigid-requires-in-Level : goal.rigid-requires-in-Level
 rigid-requires-in-Level c = record {
   head = ap (λ (ls : List ℕ). read c.args.heap.now c.args.head.index (renamed ls)) c.as_slice-in-Level.ensures.value
-    ∙ level-reads c.args.heap.now c.args.head.index c.in-Level.l c.index.result.now c.args.levels.now.items c.is_sound.ensures (c.view.ensures ∙ ap Some c.in-Level.is) c.requires.valid c.index.ensures;
+      ∙ level-reads c.args.heap.now c.args.head.index c.in-Level.l c.index.result.now c.args.levels.now.items c.is_sound.ensures (c.view.ensures ∙ ap Some c.in-Level.is) c.requires.valid c.index.ensures;
 }
 
 pub index-requires : goal.index-requires

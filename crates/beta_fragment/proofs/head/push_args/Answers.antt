@@ -52,8 +52,8 @@ loop-i-preserved c =
     let below = valid-below c.args.heap.now c.arg_of-arg.result.index (length c.args.levels.now) valid in
     let later = growth_keeps_valid c.args.heap.now c.loop-i.heap [] [] c.arg_of-arg.result.index (length c.args.levels.now) c.is_sound.ensures c.loop-i.invariant.grows below valid in
     let reads : read c.moved_node.new.heap c.in_ok-r.r.index names ≡ read c.args.heap.now c.arg_of-arg.result.index (renamed c.args.levels.now) =
-        renamed-node c.loop-i.heap c.args.levels.now c.args.depth c.arg_of-arg.result.index (value_of c.moved_node.new.heap c.in_ok-r.r) later c.in_ok-r.ensures.moves
-        ∙ ap (λ r. r (renamed c.args.levels.now)) (grown-reads c.args.heap.now c.loop-i.heap c.is_sound.ensures c.loop-i.invariant.grows c.arg_of-arg.result.index below) in
+    renamed-node c.loop-i.heap c.args.levels.now c.args.depth c.arg_of-arg.result.index (value_of c.moved_node.new.heap c.in_ok-r.r) later c.in_ok-r.ensures.moves
+    ∙ ap (λ r. r (renamed c.args.levels.now)) (grown-reads c.args.heap.now c.loop-i.heap c.is_sound.ensures c.loop-i.invariant.grows c.arg_of-arg.result.index below) in
     let rest = read-grown_all c.loop-i.heap c.moved_node.new.heap c.args.depth c.is_sound-in-loop-i.ensures c.moved_node.ensures.grows (reverse c.loop-i.args.items) c.loop-i.invariant.valid ∙ c.loop-i.invariant.reads in
     let order = ap reverse c.in_ok-push.ensures.items ∙ newest-arg c.loop-i.args.items c.in_ok-r.r in
     let up : suc (c.loop-i.i - 1) ≡ c.loop-i.i = omega (arith, c.loop-i-test.true) in
@@ -61,9 +61,9 @@ loop-i-preserved c =
     record {
       within = (let within = c.loop-i.invariant.within in omega (arith, within));
       reads = ap (all_read c.moved_node.new.heap) order
-        ∙ ap₂ (λ (x : Term) (xs : List Term). x ∷ xs) reads rest
-        ∙ sym (ap (λ (us : List TermId). map (λ a. read c.args.heap.now a.index (renamed c.args.levels.now)) us ++ all_read c.args.heap.now (reverse c.args.args.now.items)) dropped);
+          ∙ ap₂ (λ (x : Term) (xs : List Term). x ∷ xs) reads rest
+          ∙ sym (ap (λ (us : List TermId). map (λ a. read c.args.heap.now a.index (renamed c.args.levels.now)) us ++ all_read c.args.heap.now (reverse c.args.args.now.items)) dropped);
       valid = subst (λ us. AllValidAt c.moved_node.new.heap us c.args.depth) (sym order)
-        (renamed-valid c.loop-i.heap c.args.levels.now c.args.depth c.arg_of-arg.result.index (value_of c.moved_node.new.heap c.in_ok-r.r) c.in_ok-r.ensures.moves, valid-grown_all c.loop-i.heap c.moved_node.new.heap c.args.depth c.is_sound-in-loop-i.ensures c.moved_node.ensures.grows (reverse c.loop-i.args.items) c.loop-i.invariant.valid);
+          (renamed-valid c.loop-i.heap c.args.levels.now c.args.depth c.arg_of-arg.result.index (value_of c.moved_node.new.heap c.in_ok-r.r) c.in_ok-r.ensures.moves, valid-grown_all c.loop-i.heap c.moved_node.new.heap c.args.depth c.is_sound-in-loop-i.ensures c.moved_node.ensures.grows (reverse c.loop-i.args.items) c.loop-i.invariant.valid);
       grows = grows-trans c.args.heap.now c.loop-i.heap c.moved_node.new.heap [] [] [] c.loop-i.invariant.grows c.moved_node.ensures.grows;
     }

@@ -17,8 +17,9 @@ returns-clause-form c = λ u k.
       node = c.in_ok-r.ensures.lam;
       valid = c.in_ok-r.ensures.valid;
       reads = subst IsAbstraction (sym c.in_ok-r.ensures.reads) (c.requires.certain (renamed c.args.levels.now.items) (renamed-places c.args.levels.now.items));
-    } in
-    (lam
-    , subst (FirstUnready c.renamed_lam.new.heap) (sym list) (unready-first c.args.heap.now c.renamed_lam.new.heap c.args.depth (reverse c.args.args.now) c.is_sound.ensures c.in_ok-r.ensures.grows k.valid some c.requires.unready)
-    , subst (λ ts. AllValidAt c.renamed_lam.new.heap ts c.args.depth) (sym list) (valid-grown_all c.args.heap.now c.renamed_lam.new.heap c.args.depth c.is_sound.ensures c.in_ok-r.ensures.grows (reverse c.args.args.now) k.valid)
-    , k.reads ∙ ap₂ apply_all (sym c.in_ok-r.ensures.reads) (sym (ap (all_read c.renamed_lam.new.heap) list ∙ read-grown_all c.args.heap.now c.renamed_lam.new.heap c.args.depth c.is_sound.ensures c.in_ok-r.ensures.grows (reverse c.args.args.now) k.valid)))
+    } in (
+      lam,
+      subst (FirstUnready c.renamed_lam.new.heap) (sym list) (unready-first c.args.heap.now c.renamed_lam.new.heap c.args.depth (reverse c.args.args.now) c.is_sound.ensures c.in_ok-r.ensures.grows k.valid some c.requires.unready),
+      subst (λ ts. AllValidAt c.renamed_lam.new.heap ts c.args.depth) (sym list) (valid-grown_all c.args.heap.now c.renamed_lam.new.heap c.args.depth c.is_sound.ensures c.in_ok-r.ensures.grows (reverse c.args.args.now) k.valid),
+      k.reads ∙ ap₂ apply_all (sym c.in_ok-r.ensures.reads) (sym (ap (all_read c.renamed_lam.new.heap) list ∙ read-grown_all c.args.heap.now c.renamed_lam.new.heap c.args.depth c.is_sound.ensures c.in_ok-r.ensures.grows (reverse c.args.args.now) k.valid)),
+    )

@@ -29,7 +29,7 @@ returns-in-Ends-clause-grows c = grows-trans c.args.heap.now c.loop-args.heap c.
 pub loop-args-preserved : goal.loop-args-preserved
 loop-args-preserved c =
     let turn : GoesOn c.args.depth c.loop-args.heap c.one_turn.new.heap c.loop-args.head.index c.in-Goes.next.index c.loop-args.levels.items c.one_turn.new.levels.items c.one_turn.new.fixed c.loop-args.args.items c.one_turn.new.args.items =
-        subst (IsTurn c.args.depth c.loop-args.heap c.one_turn.new.heap c.loop-args.head.index c.loop-args.levels.items c.one_turn.new.levels.items c.one_turn.new.fixed c.loop-args.args.items c.one_turn.new.args.items) c.in-Goes.is c.in_ok-next.ensures.turn in
+    subst (IsTurn c.args.depth c.loop-args.heap c.one_turn.new.heap c.loop-args.head.index c.loop-args.levels.items c.one_turn.new.levels.items c.one_turn.new.fixed c.loop-args.args.items c.one_turn.new.args.items) c.in-Goes.is c.in_ok-next.ensures.turn in
     record {
       spine = turn.spine (read c.args.heap.now c.args.t.index names) c.loop-args.invariant.spine;
       moves = turn.moves;
@@ -41,5 +41,5 @@ loop-args-preserved c =
 pub loop-args-smaller : goal.loop-args-smaller
 loop-args-smaller c =
     let turn : GoesOn c.args.depth c.loop-args.heap c.one_turn.new.heap c.loop-args.head.index c.in-Goes.next.index c.loop-args.levels.items c.one_turn.new.levels.items c.one_turn.new.fixed c.loop-args.args.items c.one_turn.new.args.items =
-        subst (IsTurn c.args.depth c.loop-args.heap c.one_turn.new.heap c.loop-args.head.index c.loop-args.levels.items c.one_turn.new.levels.items c.one_turn.new.fixed c.loop-args.args.items c.one_turn.new.args.items) c.in-Goes.is c.in_ok-next.ensures.turn in
+    subst (IsTurn c.args.depth c.loop-args.heap c.one_turn.new.heap c.loop-args.head.index c.loop-args.levels.items c.one_turn.new.levels.items c.one_turn.new.fixed c.loop-args.args.items c.one_turn.new.args.items) c.in-Goes.is c.in_ok-next.ensures.turn in
     (turn.less c.args.heap.now c.is_sound.ensures c.loop-args.invariant.grows c.loop-args.invariant.there).1

@@ -39,7 +39,7 @@ moved_node-requires-clause-valid c =
 pub returns-clause-reads : goal.returns-clause-reads
 returns-clause-reads c = IfOk-weaker c.moved_node.result _ _
     (λ r m. opened-node c.args.heap.now c.args.made c.args.name c.args.to c.args.body.index c.in_ok-levels.levels.items c.as_slice.result.now (value_of c.moved_node.new.heap r) c.in_ok-levels.ensures.count c.in_ok-levels.ensures.own (c.as_slice.ensures.value ∙ c.in_ok-push.ensures.items)
-      (body-valid c.args.heap.now c.is_sound.ensures c.args.lam.index c.args.made c.args.body c.args.made c.requires.here c.requires.valid) m)
+    (body-valid c.args.heap.now c.is_sound.ensures c.args.lam.index c.args.made c.args.body c.args.made c.requires.here c.requires.valid) m)
     c.moved_node.ensures.moves
 
 pub returns-clause-valid : goal.returns-clause-valid
