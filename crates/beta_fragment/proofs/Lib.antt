@@ -13,3 +13,6 @@ pub mod HeadLemmas
 pub mod TurnLemmas
 pub mod FirstLemmas
 pub mod OpenLemmas
+pub mod NamelessLemmas
+pub mod PutLemmas
+pub mod PutWork

@@ -27,7 +27,7 @@ use Rattle.ref_terms.specs.terms.Eta.{lam}
 use Rattle.ref_terms.specs.unification.Spine.{apply_all}
 use Rattle.beta_fragment.specs.Names.{AllBelow}
 use Rattle.beta_fragment.specs.HeadForm.{AllValidAt}
-use Rattle.beta_fragment.specs.Moves.{Value, value_of, Moves, IsLamOf, IsAppOf, IsLevelOf, IsMove, moved, moved_level}
+use Rattle.beta_fragment.specs.Moves.{Value, value_of, Moves, IsLamOf, IsAppOf, IsLevelOf, IsMove, Plan, naming, Does, moved, moved_level}
 use Rattle.beta_fragment.proofs.ReadLemmas.{valid-below}
 use Rattle.beta_fragment.proofs.EnterLemmas.{body-valid}
 use Rattle.beta_fragment.proofs.MakeLemmas.{and_both, newest}
@@ -59,13 +59,13 @@ moved-places ns base to env p i = p (moved_level ns base to i)
 pub below_true : (i b : ℕ) → i < b → nat_lt i b ≡ true
 below_true i b h = grind (arith, h)
 
-below_false : (i b : ℕ) → b ≤ i → nat_lt i b ≡ false
+pub below_false : (i b : ℕ) → b ≤ i → nat_lt i b ≡ false
 below_false i b h = grind (arith, h)
 
 pub below_from : (i b : ℕ) → nat_lt i b ≡ true → i < b
 below_from i b h = grind (arith, h)
 
-above_from : (i b : ℕ) → nat_lt i b ≡ false → b ≤ i
+pub above_from : (i b : ℕ) → nat_lt i b ≡ false → b ≤ i
 above_from i b h = grind (arith, h)
 
 neq_from : (a b : ℕ) → nat_eq a b ≡ false → a ≡ b → ⊥
@@ -130,26 +130,26 @@ lam-moves g ns to t base s d b y x sound all e v low few m w = record {
 }
 
 -- the parts of an application
-abbrev pub AllMove : Graph → List ℕ → (to base s : ℕ) → List TermId → List Value → Type 0
-AllMove g ns to base s [] [] = Unit {0}
-AllMove g ns to base s (t ∷ ts) (x ∷ xs) = Moves g ns to t.index base s x × AllMove g ns to base s ts xs
-AllMove g ns to base s _ _ = ⊥
+abbrev pub AllMove : Graph → Plan → (base s : ℕ) → List TermId → List Value → Type 0
+AllMove g plan base s [] [] = Unit {0}
+AllMove g plan base s (t ∷ ts) (x ∷ xs) = Does g plan t.index base s x × AllMove g plan base s ts xs
+AllMove g plan base s _ _ = ⊥
 
-terms-move : (g : Graph) (ns : List ℕ) (to base s : ℕ) (ts : List TermId) (xs : List Value) → AllMove g ns to base s ts xs → (env : ℕ → Term) → ArePlaces env →
+terms-move : (g : Graph) (ns : List ℕ) (to base s : ℕ) (ts : List TermId) (xs : List Value) → AllMove g (naming ns to) base s ts xs → (env : ℕ → Term) → ArePlaces env →
     map (λ (y : Value). y.term env) xs ≡ map (λ t. read g t.index (moved ns base to env)) ts
 terms-move g ns to base s [] [] w env p = refl
 terms-move g ns to base s (t ∷ ts) [] w env p = absurd w
 terms-move g ns to base s [] (x ∷ xs) w env p = absurd w
 terms-move g ns to base s (t ∷ ts) (x ∷ xs) w env p = ap₂ (λ (y : Term) (ys : List Term). y ∷ ys) (w.0.term env p) (terms-move g ns to base s ts xs w.1 env p)
 
-all-hold : (g : Graph) (ns : List ℕ) (to base s : ℕ) (ts : List TermId) (xs : List Value) → AllMove g ns to base s ts xs → (f : ℕ) → s - base + to ≤ f → list_all (λ (y : Value). y.holds f) xs ≡ true
+all-hold : (g : Graph) (ns : List ℕ) (to base s : ℕ) (ts : List TermId) (xs : List Value) → AllMove g (naming ns to) base s ts xs → (f : ℕ) → s - base + to ≤ f → list_all (λ (y : Value). y.holds f) xs ≡ true
 all-hold g ns to base s [] [] w f q = refl
 all-hold g ns to base s (t ∷ ts) [] w f q = absurd w
 all-hold g ns to base s [] (x ∷ xs) w f q = absurd w
 all-hold g ns to base s (t ∷ ts) (x ∷ xs) w f q = and_both (x.holds f) _ (w.0.holds f q) (all-hold g ns to base s ts xs w.1 f q)
 
 pub app-moves : (g : Graph) (ns : List ℕ) (to t base s : ℕ) (k : TermId) (ts : List TermId) (h x : Value) (xs : List Value) → IsSound g → node_at g.nodes t ≡ Some (App k ts) →
-    Moves g ns to k.index base s h → AllMove g ns to base s ts xs → IsAppOf h xs x → Moves g ns to t base s x
+    Moves g ns to k.index base s h → AllMove g (naming ns to) base s ts xs → IsAppOf h xs x → Moves g ns to t base s x
 app-moves g ns to t base s k ts h x xs sound e m ms w = record {
   term = λ env p. w.term env p
       ∙ ap₂ apply_all (m.term env p) (terms-move g ns to base s ts xs ms env p)

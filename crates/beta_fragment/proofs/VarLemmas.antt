@@ -31,7 +31,7 @@ use Rattle.ref_terms.specs.unification.Spine.{apply_all}
 use Rattle.ref_terms.specs.lemmas.FillLemmas.{built-apply}
 use Rattle.ref_terms.specs.lemmas.ComposeLemmas.{ren-apply, lam-apply}
 use Rattle.beta_fragment.specs.Names.{AllBelow}
-use Rattle.beta_fragment.specs.Moves.{Value, value_of, Moves, IsLamOf, IsAppOf, IsLevelOf, IsVarOf, AreLevelsOf, IsMovedVar, moved, moved_level}
+use Rattle.beta_fragment.specs.Moves.{Value, value_of, Moves, IsLamOf, IsAppOf, IsLevelOf, IsVarOf, AreLevelsOf, IsMovedVar, naming, moved, moved_level}
 use Rattle.beta_fragment.proofs.MakeLemmas.{newest, and_both}
 use Rattle.beta_fragment.proofs.MoveLemmas.{below_true, below_from, moved-places, moved-below, node-before, assigned-before, value-moves}
 use Rattle.beta_fragment.proofs.ReadLemmas.{valid-below}
@@ -154,14 +154,14 @@ depth-before g h w v k = ap (λ (ds : List ℕ). slice_index ds v) w.depths ∙ 
 -- a visit of a variable that has a value
 module _ (ns : List ℕ) (to : ℕ) where
   pub value-leads : (g h : Graph) (t base source : ℕ) (node value : TermId) (v : VarId) (b : ℕ) (k : List Task) (xs : List Value) → IsSound g → Grows g h [] [] → node_at h.nodes node.index ≡ Some (Var v) → value_in h.assigned v.index ≡ Some value.index →
-      Leads g ns to t base source (Visit node b ∷ k) xs → Leads g ns to t base source (Visit value (min b (slice_index h.depths v.index)) ∷ k) xs
+      Leads g (naming ns to) t base source (Visit node b ∷ k) xs → Leads g (naming ns to) t base source (Visit value (min b (slice_index h.depths v.index)) ∷ k) xs
   value-leads g h t base source node value v b k xs sg gr e f l =
       let here = node-before g h gr node.index (Var v) (valid-below g node.index l.0 l.1) e in
       let known = var-known g node.index v sg here in
       let has = sym (assigned-before g h gr v.index) ∙ f in
       let deep = value-valid g.nodes g.depths g.assigned sg.valid v.index value.index has in
       let few = l.3 in
-      subst (λ d. Leads g ns to t base source (Visit value (min b d) ∷ k) xs) (sym (depth-before g h gr v.index known)) (
+      subst (λ d. Leads g (naming ns to) t base source (Visit value (min b d) ∷ k) xs) (sym (depth-before g h gr v.index known)) (
         slice_index g.depths v.index,
         deep,
         omega arith,

@@ -16,7 +16,7 @@ use Rattle.level_terms.proofs.GrowthLemmas.{grows-trans}
 use Rattle.beta_fragment.specs.declared.renaming.Task.{Task}
 use Rattle.beta_fragment.specs.declared.renaming.Task.TheVariants.{Visit, Lam, App}
 use Rattle.beta_fragment.specs.HeadForm.{AllValidAt}
-use Rattle.beta_fragment.specs.Moves.{Value, value_of, Moves, IsLamOf, IsAppOf}
+use Rattle.beta_fragment.specs.Moves.{Value, value_of, Plan, naming, Does, IsLow, HasFew, IsLamOf, IsAppOf}
 use Rattle.beta_fragment.specs.Work.{Leads, task_size, work_size, State, IsLeading, Steps, visits, IsReady}
 use Rattle.beta_fragment.specs.Names.{AllBelow}
 use Rattle.beta_fragment.proofs.ReadLemmas.{valid-below}
@@ -91,16 +91,16 @@ visits-size : (g : Graph) (b : ℕ) (ts : List TermId) → work_size g (visits b
 visits-size g b [] = omega arith
 visits-size g b (t ∷ ts) = let h = visits-size g b ts in omega (arith, h)
 
-module _ (ns : List ℕ) (to : ℕ) where
+module _ (plan : Plan) where
   -- a visit that is done at once
   pub steps-done : (old new : Graph) (work : List Task) (done : List TermId) (node r : TermId) (b : ℕ) → IsSound old → Grows old new [] [] → AllOlder (length old.nodes) done →
-      ((g : Graph) (s : ℕ) → IsSound g → Grows g old [] [] → IsValid g node.index s → b ≤ s → b ≤ length ns → Moves g ns to node.index b s (value_of new r)) →
-      Steps ns to (record { heap = old; work = work ++ Visit node b ∷ []; done = done }) (record { heap = new; work = work; done = done ++ r ∷ [] })
+      ((g : Graph) (s : ℕ) → IsSound g → Grows g old [] [] → IsValid g node.index s → IsLow plan b s → HasFew plan b → Does g plan node.index b s (value_of new r)) →
+      Steps plan (record { heap = old; work = work ++ Visit node b ∷ []; done = done }) (record { heap = new; work = work; done = done ++ r ∷ [] })
   steps-done old new work done node r b so w there m = record {
     leads = λ g t base source sg gr l.
-        let h = subst (λ ks. Leads g ns to t base source ks (map (value_of old) done)) (newest-task work (Visit node b)) l in
+        let h = subst (λ ks. Leads g plan t base source ks (map (value_of old) done)) (newest-task work (Visit node b)) l in
         let next = h.4 (value_of new r) (m g h.0 sg gr h.1 h.2 h.3) in
-        subst (Leads g ns to t base source (reverse work)) (ap (λ xs. xs ++ value_of new r ∷ []) (sym (values-kept old new so w done there)) ∙ sym (map-append (value_of new) done (r ∷ []))) next;
+        subst (Leads g plan t base source (reverse work)) (ap (λ xs. xs ++ value_of new r ∷ []) (sym (values-kept old new so w done there)) ∙ sym (map-append (value_of new) done (r ∷ []))) next;
     falls = λ g t base source sg gr l.
         let size = ap (work_size g) (newest-task work (Visit node b)) in
         let some = size-some (tree g node.index) in
@@ -110,14 +110,14 @@ module _ (ns : List ℕ) (to : ℕ) where
   -- a visit that leads to other tasks
   pub steps-more : (heap : Graph) (work more ks : List Task) (done : List TermId) (node : TermId) (b : ℕ) → reverse more ≡ ks →
       ((g : Graph) → IsSound g → Grows g heap [] [] → (s : ℕ) → IsValid g node.index s → work_size g ks < 2 * tree_size (tree g node.index)) →
-      ((g : Graph) (t base source : ℕ) (k : List Task) (xs : List Value) → IsSound g → Grows g heap [] [] → Leads g ns to t base source (Visit node b ∷ k) xs → Leads g ns to t base source (ks ++ k) xs) →
-      Steps ns to (record { heap = heap; work = work ++ Visit node b ∷ []; done = done }) (record { heap = heap; work = work ++ more; done = done })
+      ((g : Graph) (t base source : ℕ) (k : List Task) (xs : List Value) → IsSound g → Grows g heap [] [] → Leads g plan t base source (Visit node b ∷ k) xs → Leads g plan t base source (ks ++ k) xs) →
+      Steps plan (record { heap = heap; work = work ++ Visit node b ∷ []; done = done }) (record { heap = heap; work = work ++ more; done = done })
   steps-more heap work more ks done node b same small m = record {
     leads = λ g t base source sg gr l.
-        let h = subst (λ js. Leads g ns to t base source js (map (value_of heap) done)) (newest-task work (Visit node b)) l in
-        subst (λ js. Leads g ns to t base source js (map (value_of heap) done)) (sym (reverse-append work more ∙ ap (λ js. js ++ reverse work) same)) (m g t base source (reverse work) (map (value_of heap) done) sg gr h);
+        let h = subst (λ js. Leads g plan t base source js (map (value_of heap) done)) (newest-task work (Visit node b)) l in
+        subst (λ js. Leads g plan t base source js (map (value_of heap) done)) (sym (reverse-append work more ∙ ap (λ js. js ++ reverse work) same)) (m g t base source (reverse work) (map (value_of heap) done) sg gr h);
     falls = λ g t base source sg gr l.
-        let h = subst (λ js. Leads g ns to t base source js (map (value_of heap) done)) (newest-task work (Visit node b)) l in
+        let h = subst (λ js. Leads g plan t base source js (map (value_of heap) done)) (newest-task work (Visit node b)) l in
         let size = ap (work_size g) (newest-task work (Visit node b)) in
         let after = ap (work_size g) (reverse-append work more ∙ ap (λ js. js ++ reverse work) same) ∙ work-append g ks (reverse work) in
         let less = small g sg gr h.0 h.1 in
@@ -126,44 +126,44 @@ module _ (ns : List ℕ) (to : ℕ) where
 
   -- an abstraction is made
   pub steps-lam : (old new : Graph) (work : List Task) (front : List TermId) (body r : TermId) (d : ℕ) → IsSound old → Grows old new [] [] → AllOlder (length old.nodes) front → IsLamOf d (value_of old body) (value_of new r) →
-      Steps ns to (record { heap = old; work = work ++ Lam d ∷ []; done = front ++ body ∷ [] }) (record { heap = new; work = work; done = front ++ r ∷ [] })
+      Steps plan (record { heap = old; work = work ++ Lam d ∷ []; done = front ++ body ∷ [] }) (record { heap = new; work = work; done = front ++ r ∷ [] })
   steps-lam old new work front body r d so w there m = record {
     leads = λ g t base source sg gr l.
-        let h = subst (λ ks. Leads g ns to t base source ks (map (value_of old) (front ++ body ∷ []))) (newest-task work (Lam d)) l in
+        let h = subst (λ ks. Leads g plan t base source ks (map (value_of old) (front ++ body ∷ []))) (newest-task work (Lam d)) l in
         let parts = split-unique (map (value_of old) front) h.0 (value_of old body) h.1 [] [] refl (sym (map-append (value_of old) front (body ∷ [])) ∙ h.2) in
         let next = h.3 (value_of new r) (subst (λ y. IsLamOf d y (value_of new r)) parts.1 m) in
-        subst (Leads g ns to t base source (reverse work)) (ap (λ xs. xs ++ value_of new r ∷ []) (sym (values-kept old new so w front there ∙ parts.0)) ∙ sym (map-append (value_of new) front (r ∷ []))) next;
+        subst (Leads g plan t base source (reverse work)) (ap (λ xs. xs ++ value_of new r ∷ []) (sym (values-kept old new so w front there ∙ parts.0)) ∙ sym (map-append (value_of new) front (r ∷ []))) next;
     falls = λ g t base source sg gr l. let size = ap (work_size g) (newest-task work (Lam d)) in omega (arith, size);
   }
 
   -- an application is made
   pub steps-app : (old new : Graph) (work : List Task) (front args : List TermId) (head r : TermId) (n : ℕ) → IsSound old → Grows old new [] [] → AllOlder (length old.nodes) front → length args ≡ n → IsAppOf (value_of old head) (map (value_of old) args) (value_of new r) →
-      Steps ns to (record { heap = old; work = work ++ App n ∷ []; done = front ++ head ∷ args }) (record { heap = new; work = work; done = front ++ r ∷ [] })
+      Steps plan (record { heap = old; work = work ++ App n ∷ []; done = front ++ head ∷ args }) (record { heap = new; work = work; done = front ++ r ∷ [] })
   steps-app old new work front args head r n so w there long m = record {
     leads = λ g t base source sg gr l.
-        let h = subst (λ ks. Leads g ns to t base source ks (map (value_of old) (front ++ head ∷ args))) (newest-task work (App n)) l in
+        let h = subst (λ ks. Leads g plan t base source ks (map (value_of old) (front ++ head ∷ args))) (newest-task work (App n)) l in
         let parts = split-unique (map (value_of old) front) h.0 (value_of old head) h.1 (map (value_of old) args) h.2 (length-map args (value_of old) ∙ long ∙ sym h.4) (sym (map-append (value_of old) front (head ∷ args)) ∙ h.3) in
         let next = h.5 (value_of new r) (subst (λ y. IsAppOf y h.2 (value_of new r)) parts.1 (subst (λ ys. IsAppOf (value_of old head) ys (value_of new r)) parts.2 m)) in
-        subst (Leads g ns to t base source (reverse work)) (ap (λ xs. xs ++ value_of new r ∷ []) (sym (values-kept old new so w front there ∙ parts.0)) ∙ sym (map-append (value_of new) front (r ∷ []))) next;
+        subst (Leads g plan t base source (reverse work)) (ap (λ xs. xs ++ value_of new r ∷ []) (sym (values-kept old new so w front there ∙ parts.0)) ∙ sym (map-append (value_of new) front (r ∷ []))) next;
     falls = λ g t base source sg gr l. let size = ap (work_size g) (newest-task work (App n)) in omega (arith, size);
   }
 
   -- visits of nodes, one after the other
-  pub visits-lead : (g : Graph) (t base source b s : ℕ) (k : List Task) → b ≤ s → b ≤ length ns → (ts : List TermId) (xs : List Value) → AllValidAt g ts s → ((more : List Value) → AllMove g ns to b s ts more → Leads g ns to t base source k (xs ++ more)) → Leads g ns to t base source (visits b ts ++ k) xs
-  visits-lead g t base source b s k low few [] xs v f = subst (Leads g ns to t base source k) (append-nil xs) (f [] tt)
+  pub visits-lead : (g : Graph) (t base source b s : ℕ) (k : List Task) → IsLow plan b s → HasFew plan b → (ts : List TermId) (xs : List Value) → AllValidAt g ts s → ((more : List Value) → AllMove g plan b s ts more → Leads g plan t base source k (xs ++ more)) → Leads g plan t base source (visits b ts ++ k) xs
+  visits-lead g t base source b s k low few [] xs v f = subst (Leads g plan t base source k) (append-nil xs) (f [] tt)
   visits-lead g t base source b s k low few (u ∷ us) xs v f =
-      (s, v.0, low, few, λ x m. visits-lead g t base source b s k low few us (xs ++ x ∷ []) v.1 (λ more w. subst (Leads g ns to t base source k) (sym (append_assoc xs (x ∷ []) more)) (f (x ∷ more) (m, w))))
+      (s, v.0, low, few, λ x m. visits-lead g t base source b s k low few us (xs ++ x ∷ []) v.1 (λ more w. subst (Leads g plan t base source k) (sym (append_assoc xs (x ∷ []) more)) (f (x ∷ more) (m, w))))
 
-moved-length : (g : Graph) (ns : List ℕ) (to b s : ℕ) (ts : List TermId) (xs : List Value) → AllMove g ns to b s ts xs → length xs ≡ length ts
-moved-length g ns to b s [] [] w = refl
-moved-length g ns to b s (t ∷ ts) [] w = absurd w
-moved-length g ns to b s [] (x ∷ xs) w = absurd w
-moved-length g ns to b s (t ∷ ts) (x ∷ xs) w = ap suc (moved-length g ns to b s ts xs w.1)
+pub moved-length : (g : Graph) (plan : Plan) (b s : ℕ) (ts : List TermId) (xs : List Value) → AllMove g plan b s ts xs → length xs ≡ length ts
+moved-length g plan b s [] [] w = refl
+moved-length g plan b s (t ∷ ts) [] w = absurd w
+moved-length g plan b s [] (x ∷ xs) w = absurd w
+moved-length g plan b s (t ∷ ts) (x ∷ xs) w = ap suc (moved-length g plan b s ts xs w.1)
 
 module _ (ns : List ℕ) (to : ℕ) where
   -- a visit of an abstraction
   pub lam-leads : (g : Graph) (t base source : ℕ) (node body : TermId) (b d : ℕ) (k : List Task) (xs : List Value) → IsSound g → AllBelow ns to → (node.index < length g.nodes → node_at g.nodes node.index ≡ Some (lam_node d body)) →
-      Leads g ns to t base source (Visit node b ∷ k) xs → Leads g ns to t base source (Visit body (min b d) ∷ Lam (d - min b d + to) ∷ k) xs
+      Leads g (naming ns to) t base source (Visit node b ∷ k) xs → Leads g (naming ns to) t base source (Visit body (min b d) ∷ Lam (d - min b d + to) ∷ k) xs
   lam-leads g t base source node body b d k xs sg all here h =
       let e = here (valid-below g node.index h.0 h.1) in
       let low = h.3 in (
@@ -179,7 +179,7 @@ module _ (ns : List ℕ) (to : ℕ) where
 
   -- a visit of an application
   pub app-leads : (g : Graph) (t base source : ℕ) (node head : TermId) (args : List TermId) (b : ℕ) (k : List Task) (xs : List Value) → IsSound g → (node.index < length g.nodes → node_at g.nodes node.index ≡ Some (app_node head args)) →
-      Leads g ns to t base source (Visit node b ∷ k) xs → Leads g ns to t base source ((Visit head b ∷ (visits b args ++ App (length args) ∷ [])) ++ k) xs
+      Leads g (naming ns to) t base source (Visit node b ∷ k) xs → Leads g (naming ns to) t base source ((Visit head b ∷ (visits b args ++ App (length args) ∷ [])) ++ k) xs
   app-leads g t base source node head args b k xs sg here h =
       let e = here (valid-below g node.index h.0 h.1) in
       let parts = app-valid g node.index h.0 head args sg e h.1 in (
@@ -188,14 +188,14 @@ module _ (ns : List ℕ) (to : ℕ) where
         h.2,
         h.3,
         λ y m.
-            subst (λ js. Leads g ns to t base source js (xs ++ y ∷ [])) (sym (append_assoc (visits b args) (App (length args) ∷ []) k))
-            (visits-lead ns to g t base source b h.0 (App (length args) ∷ k) h.2 h.3 args (xs ++ y ∷ []) parts.1
+            subst (λ js. Leads g (naming ns to) t base source js (xs ++ y ∷ [])) (sym (append_assoc (visits b args) (App (length args) ∷ []) k))
+            (visits-lead (naming ns to) g t base source b h.0 (App (length args) ∷ k) h.2 h.3 args (xs ++ y ∷ []) parts.1
             (λ more w. (
               xs,
               y,
               more,
               append_assoc xs (y ∷ []) more,
-              moved-length g ns to b h.0 args more w,
+              moved-length g (naming ns to) b h.0 args more w,
               λ x a. h.4 x (app-moves g ns to node.index b h.0 head args y x more sg e m w a),
             ))),
       )
@@ -208,29 +208,29 @@ module _ (ns : List ℕ) (to : ℕ) where
       omega (arith, less, more, each)
 
 -- the next task can be done
-pub leads-ready : (g h : Graph) (ns : List ℕ) (to t base source : ℕ) (task : Task) (k : List Task) (done : List TermId) → Grows g h [] [] → Leads g ns to t base source (task ∷ k) (map (value_of h) done) → IsReady ns (length h.nodes) (length done) task
-leads-ready g h ns to t base source (Visit n b) k done gr l =
+pub leads-ready : (g h : Graph) (plan : Plan) (t base source : ℕ) (task : Task) (k : List Task) (done : List TermId) → Grows g h [] [] → Leads g plan t base source (task ∷ k) (map (value_of h) done) → IsReady plan (length h.nodes) (length done) task
+leads-ready g h plan t base source (Visit n b) k done gr l =
     let below = valid-below g n.index l.0 l.1 in
     let more = grown-length g h gr in
     (omega (arith, below, more), l.3)
-leads-ready g h ns to t base source (Lam d) k done gr l =
+leads-ready g h plan t base source (Lam d) k done gr l =
     let long = sym (length-map done (value_of h)) ∙ ap length l.2 ∙ length-append l.0 (l.1 ∷ []) in
     omega (arith, long)
-leads-ready g h ns to t base source (App m) k done gr l =
+leads-ready g h plan t base source (App m) k done gr l =
     let long = sym (length-map done (value_of h)) ∙ ap length l.3 ∙ length-append l.0 (l.1 ∷ l.2) in
     let count = l.4 in
     omega (arith, long, count)
 
-pub last-leads : (g h : Graph) (ns : List ℕ) (to t base source : ℕ) (done front : List TermId) (r : TermId) → done ≡ front ++ r ∷ [] → Leads g ns to t base source [] (map (value_of h) done) → Moves g ns to t base source (value_of h r)
-last-leads g h ns to t base source done front r e l = go front (subst (λ ds. Leads g ns to t base source [] (map (value_of h) ds)) e l)
+pub last-leads : (g h : Graph) (plan : Plan) (t base source : ℕ) (done front : List TermId) (r : TermId) → done ≡ front ++ r ∷ [] → Leads g plan t base source [] (map (value_of h) done) → Does g plan t base source (value_of h r)
+last-leads g h plan t base source done front r e l = go front (subst (λ ds. Leads g plan t base source [] (map (value_of h) ds)) e l)
   where
-    two : (f : List TermId) (x : TermId) → Leads g ns to t base source [] (map (value_of h) (x ∷ (f ++ r ∷ []))) → Moves g ns to t base source (value_of h r)
+    two : (f : List TermId) (x : TermId) → Leads g plan t base source [] (map (value_of h) (x ∷ (f ++ r ∷ []))) → Does g plan t base source (value_of h r)
     two [] x m = absurd m
     two (y ∷ f) x m = absurd m
 
-    go : (f : List TermId) → Leads g ns to t base source [] (map (value_of h) (f ++ r ∷ [])) → Moves g ns to t base source (value_of h r)
+    go : (f : List TermId) → Leads g plan t base source [] (map (value_of h) (f ++ r ∷ [])) → Does g plan t base source (value_of h r)
     go [] m = m
     go (x ∷ f) m = two f x m
 
-pub some-done : (g h : Graph) (ns : List ℕ) (to t base source : ℕ) (done : List TermId) → Leads g ns to t base source [] (map (value_of h) done) → done ≡ [] → ⊥
-some-done g h ns to t base source done l e = subst (λ ds. Leads g ns to t base source [] (map (value_of h) ds)) e l
+pub some-done : (g h : Graph) (plan : Plan) (t base source : ℕ) (done : List TermId) → Leads g plan t base source [] (map (value_of h) done) → done ≡ [] → ⊥
+some-done g h plan t base source done l e = subst (λ ds. Leads g plan t base source [] (map (value_of h) ds)) e l

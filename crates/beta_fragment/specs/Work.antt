@@ -8,16 +8,16 @@ use Rattle.level_terms.specs.Sound.{IsSound}
 use Rattle.level_terms.specs.Valid.{IsValid}
 use Rattle.beta_fragment.specs.declared.renaming.Task.{Task}
 use Rattle.beta_fragment.specs.declared.renaming.Task.TheVariants.{Visit, Lam, App}
-use Rattle.beta_fragment.specs.Moves.{Value, value_of, Moves, IsLamOf, IsAppOf}
+use Rattle.beta_fragment.specs.Moves.{Value, value_of, Plan, Does, IsLow, HasFew, IsLamOf, IsAppOf}
 
--- whatever values meet what the tasks ask for, newest task first, what is left at last is the node t with its levels moved
-abbrev pub Leads : Graph → List ℕ → (to : ℕ) → (t base source : ℕ) → List Task → List Value → Type 0
-Leads g ns to t base source [] [] = ⊥
-Leads g ns to t base source [] (x ∷ []) = Moves g ns to t base source x
-Leads g ns to t base source [] (x ∷ y ∷ more) = ⊥
-Leads g ns to t base source (Visit n b ∷ k) xs = (s : ℕ) × IsValid g n.index s × (b ≤ s) × (b ≤ length ns) × ((x : Value) → Moves g ns to n.index b s x → Leads g ns to t base source k (xs ++ x ∷ []))
-Leads g ns to t base source (Lam d ∷ k) xs = (front : List Value) × (y : Value) × (xs ≡ front ++ y ∷ []) × ((x : Value) → IsLamOf d y x → Leads g ns to t base source k (front ++ x ∷ []))
-Leads g ns to t base source (App m ∷ k) xs = (front : List Value) × (h : Value) × (args : List Value) × (xs ≡ front ++ h ∷ args) × (length args ≡ m) × ((x : Value) → IsAppOf h args x → Leads g ns to t base source k (front ++ x ∷ []))
+-- whatever values meet what the tasks ask for, newest task first, what is left at last is the node t, moved by the plan
+abbrev pub Leads : Graph → Plan → (t base source : ℕ) → List Task → List Value → Type 0
+Leads g plan t base source [] [] = ⊥
+Leads g plan t base source [] (x ∷ []) = Does g plan t base source x
+Leads g plan t base source [] (x ∷ y ∷ more) = ⊥
+Leads g plan t base source (Visit n b ∷ k) xs = (s : ℕ) × IsValid g n.index s × IsLow plan b s × HasFew plan b × ((x : Value) → Does g plan n.index b s x → Leads g plan t base source k (xs ++ x ∷ []))
+Leads g plan t base source (Lam d ∷ k) xs = (front : List Value) × (y : Value) × (xs ≡ front ++ y ∷ []) × ((x : Value) → IsLamOf d y x → Leads g plan t base source k (front ++ x ∷ []))
+Leads g plan t base source (App m ∷ k) xs = (front : List Value) × (h : Value) × (args : List Value) × (xs ≡ front ++ h ∷ args) × (length args ≡ m) × ((x : Value) → IsAppOf h args x → Leads g plan t base source k (front ++ x ∷ []))
 
 -- how much there is to do
 abbrev pub task_size : Graph → Task → ℕ
@@ -36,13 +36,13 @@ pub record State : Type 0 where
   pub done : List TermId
 
 -- in a heap g that the state's heap grew from, the tasks lead to the node t with its levels moved
-abbrev pub IsLeading : Graph → List ℕ → (to t base source : ℕ) → State → Type 0
-IsLeading g ns to t base source st = Leads g ns to t base source (reverse st.work) (map (value_of st.heap) st.done)
+abbrev pub IsLeading : Graph → Plan → (t base source : ℕ) → State → Type 0
+IsLeading g plan t base source st = Leads g plan t base source (reverse st.work) (map (value_of st.heap) st.done)
 
 -- a step keeps what the tasks lead to, and leaves less to do
-pub record Steps (ns : List ℕ) (to : ℕ) (old new : State) : Type 0 where
-  pub leads : (g : Graph) (t base source : ℕ) → IsSound g → Grows g old.heap [] [] → IsLeading g ns to t base source old → IsLeading g ns to t base source new
-  pub falls : (g : Graph) (t base source : ℕ) → IsSound g → Grows g old.heap [] [] → IsLeading g ns to t base source old → work_size g (reverse new.work) < work_size g (reverse old.work)
+pub record Steps (plan : Plan) (old new : State) : Type 0 where
+  pub leads : (g : Graph) (t base source : ℕ) → IsSound g → Grows g old.heap [] [] → IsLeading g plan t base source old → IsLeading g plan t base source new
+  pub falls : (g : Graph) (t base source : ℕ) → IsSound g → Grows g old.heap [] [] → IsLeading g plan t base source old → work_size g (reverse new.work) < work_size g (reverse old.work)
 
 -- visits of nodes, in order
 abbrev pub visits : ℕ → List TermId → List Task
@@ -50,7 +50,7 @@ visits base [] = []
 visits base (t ∷ ts) = Visit t base ∷ visits base ts
 
 -- the task can be done: its node is there, and so are the nodes that are done
-abbrev pub IsReady : List ℕ → (nodes done : ℕ) → Task → Type 0
-IsReady ns nodes done (Visit n b) = (n.index < nodes) × (b ≤ length ns)
-IsReady ns nodes done (Lam d) = 0 < done
-IsReady ns nodes done (App m) = m < done
+abbrev pub IsReady : Plan → (nodes done : ℕ) → Task → Type 0
+IsReady plan nodes done (Visit n b) = (n.index < nodes) × HasFew plan b
+IsReady plan nodes done (Lam d) = 0 < done
+IsReady plan nodes done (App m) = m < done

@@ -10,6 +10,7 @@ mod equality;
 mod glance;
 mod head;
 mod opening;
+mod putting;
 mod renaming;
 
 pub use answer::{Names, RigidHead, UnifyStop, Whnf};

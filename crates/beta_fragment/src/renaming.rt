@@ -14,7 +14,7 @@ ghost use Rattle.ref_terms.specs.terms.Term as term;
 ghost use Rattle.ref_terms.specs.terms.Term.{Term};
 ghost use Rattle.ref_terms.specs.unification.Spine.{apply_all};
 ghost use Rattle.beta_fragment.specs.Names.{names as own_names, renamed as renamed_by, AllBelow, AreDistinct};
-ghost use Rattle.beta_fragment.specs.Moves.{moved, moved_level, IsMove, value_of, IsAppOf, IsLamOf, IsLevelOf, IsVarOf, AreLevelsOf, IsMovedVar, Moves};
+ghost use Rattle.beta_fragment.specs.Moves.{moved, moved_level, IsMove, value_of, IsAppOf, IsLamOf, IsLevelOf, IsVarOf, AreLevelsOf, IsMovedVar, Moves, Plan, naming};
 ghost use Rattle.beta_fragment.specs.Work.{State, Steps, visits, IsReady};
 ghost use Rattle.level_terms.specs.declared.node.TermId.{TermId as Id};
 ghost use Rattle.beta_fragment.specs.declared.renaming.Task.{Task as TaskOf};
@@ -27,7 +27,7 @@ use std::alloc::{AllocError, Global};
 
 /// What is still to be done.
 #[derive(Clone, Copy)]
-enum Task {
+pub(crate) enum Task {
     /// The node with its levels moved: those below `base` are names.
     Visit { node: TermId, base: usize },
     /// An abstraction of the node that was done last.
@@ -83,7 +83,7 @@ fn joined(alloc: Global, first: &[TermId], more: &[TermId]) -> Result<Vec<TermId
 }
 
 /// A node that is no application, applied to nodes.
-fn made_app(heap: &mut Heap, head: TermId, args: &[TermId]) -> Result<TermId, AllocError>
+pub(crate) fn made_app(heap: &mut Heap, head: TermId, args: &[TermId]) -> Result<TermId, AllocError>
     requires head { head.index < length heap.old.nodes }
     requires no_application { IsHead (node_at heap.old.nodes head.index) }
     requires args { AllOlder (length heap.old.nodes) args.now }
@@ -159,7 +159,7 @@ pub(crate) fn sum_of(a: usize, b: usize) -> Result<usize, AllocError>
 }
 
 /// The node of a level.
-fn made_level(heap: &mut Heap, level: usize) -> Result<TermId, AllocError>
+pub(crate) fn made_level(heap: &mut Heap, level: usize) -> Result<TermId, AllocError>
     ensures level { IfOk result (λ r. IsLevelOf level (value_of heap.new r)) }
     ensures there { IfOk result (λ r. r.index < length heap.new.nodes) }
     ensures grows { Grows heap.old heap.new [] [] }
@@ -183,7 +183,7 @@ fn visit_level(
     requires base { base ≤ length names.now }
     requires below { AllBelow names.now to }
     requires done { AllOlder (length heap.old.nodes) done.old.items }
-    ensures steps { OnOk result ((work : List TaskOf) → Steps names.now to (record { heap = heap.old; work = work ++ visit_task node base ∷ []; done = done.old.items }) (record { heap = heap.new; work = work; done = done.new.items })) }
+    ensures steps { OnOk result ((work : List TaskOf) → Steps (naming names.now to) (record { heap = heap.old; work = work ++ visit_task node base ∷ []; done = done.old.items }) (record { heap = heap.new; work = work; done = done.new.items })) }
     ensures done { OnOk result (AllOlder (length heap.new.nodes) done.new.items) }
     ensures grows { Grows heap.old heap.new [] [] }
 {
@@ -208,7 +208,7 @@ fn visit_lam(
     requires here { node_at heap.now.nodes node.index ≡ Some (lam_node depth body) }
     requires base { base ≤ length names.now }
     requires below { AllBelow names.now to }
-    ensures steps { OnOk result ((done : List Id) → Steps names.now to (record { heap = heap.now; work = work.old.items ++ visit_task node base ∷ []; done = done }) (record { heap = heap.now; work = work.new.items; done = done })) }
+    ensures steps { OnOk result ((done : List Id) → Steps (naming names.now to) (record { heap = heap.now; work = work.old.items ++ visit_task node base ∷ []; done = done }) (record { heap = heap.now; work = work.new.items; done = done })) }
 {
     heap.is_sound();
     let inner = base.min(depth);
@@ -222,7 +222,7 @@ fn visit_lam(
 }
 
 /// Puts visits of nodes onto the work list, the first one last.
-fn push_visits(nodes: &[TermId], base: usize, work: &mut Vec<Task>) -> Result<(), AllocError>
+pub(crate) fn push_visits(nodes: &[TermId], base: usize, work: &mut Vec<Task>) -> Result<(), AllocError>
     ensures { OnOk result (work.new.items ≡ work.old.items ++ reverse (visits base nodes.now)) }
 {
     let mut i = nodes.len();
@@ -249,7 +249,7 @@ fn visit_app(
 ) -> Result<(), AllocError>
     requires here { node_at heap.now.nodes node.index ≡ Some (app_node head args.now) }
     requires base { base ≤ length names.now }
-    ensures steps { OnOk result ((done : List Id) → Steps names.now to (record { heap = heap.now; work = work.old.items ++ visit_task node base ∷ []; done = done }) (record { heap = heap.now; work = work.new.items; done = done })) }
+    ensures steps { OnOk result ((done : List Id) → Steps (naming names.now to) (record { heap = heap.now; work = work.old.items ++ visit_task node base ∷ []; done = done }) (record { heap = heap.now; work = work.new.items; done = done })) }
 {
     heap.is_sound();
     work.push(Task::App { args: args.len() })?;
@@ -260,7 +260,7 @@ fn visit_app(
 
 /// The node of a variable that has no value, abstracted over the levels below its depth: it reads
 /// as the variable without arguments.
-fn bare_var(heap: &mut Heap, v: VarId) -> Result<TermId, AllocError>
+pub(crate) fn bare_var(heap: &mut Heap, v: VarId) -> Result<TermId, AllocError>
     requires known { v.index < length heap.old.depths }
     requires free { value_in heap.old.assigned v.index ≡ None }
     ensures open { IfOk result (λ r. IsVarOf v.index 0 (value_of heap.new r)) }
@@ -278,7 +278,7 @@ fn bare_var(heap: &mut Heap, v: VarId) -> Result<TermId, AllocError>
 }
 
 /// The node of a variable that has no value.
-fn made_var(heap: &mut Heap, v: VarId) -> Result<TermId, AllocError>
+pub(crate) fn made_var(heap: &mut Heap, v: VarId) -> Result<TermId, AllocError>
     requires known { v.index < length heap.old.depths }
     requires free { value_in heap.old.assigned v.index ≡ None }
     ensures open { IfOk result (λ r. IsVarOf v.index (slice_index heap.old.depths v.index) (value_of heap.new r)) }
@@ -359,7 +359,7 @@ fn visit_kept(
     requires valid { (s : ℕ) → IsValid heap.now node.index s → IsValid heap.now node.index depth }
     requires there { node.index < length heap.now.nodes }
     requires done { AllOlder (length heap.now.nodes) done.old.items }
-    ensures steps { OnOk result ((work : List TaskOf) → Steps names.now to (record { heap = heap.now; work = work ++ visit_task node base ∷ []; done = done.old.items }) (record { heap = heap.now; work = work; done = done.new.items })) }
+    ensures steps { OnOk result ((work : List TaskOf) → Steps (naming names.now to) (record { heap = heap.now; work = work ++ visit_task node base ∷ []; done = done.old.items }) (record { heap = heap.now; work = work; done = done.new.items })) }
     ensures done { OnOk result (AllOlder (length heap.now.nodes) done.new.items) }
 {
     heap.is_sound();
@@ -385,7 +385,7 @@ fn visit_var(
     requires base { base ≤ length names.now }
     requires below { AllBelow names.now to }
     requires done { AllOlder (length heap.old.nodes) done.old.items }
-    ensures steps { OnOk result (Steps names.now to (record { heap = heap.old; work = work.old.items ++ visit_task node base ∷ []; done = done.old.items }) (record { heap = heap.new; work = work.new.items; done = done.new.items })) }
+    ensures steps { OnOk result (Steps (naming names.now to) (record { heap = heap.old; work = work.old.items ++ visit_task node base ∷ []; done = done.old.items }) (record { heap = heap.new; work = work.new.items; done = done.new.items })) }
     ensures done { OnOk result (AllOlder (length heap.new.nodes) done.new.items) }
     ensures grows { Grows heap.old heap.new [] [] }
 {
@@ -419,7 +419,7 @@ fn visit(
     requires there { node.index < length heap.old.nodes }
     requires base { base ≤ length names.now }
     requires done { AllOlder (length heap.old.nodes) done.old.items }
-    ensures steps { OnOk result (Steps names.now to (record { heap = heap.old; work = work.old.items ++ visit_task node base ∷ []; done = done.old.items }) (record { heap = heap.new; work = work.new.items; done = done.new.items })) }
+    ensures steps { OnOk result (Steps (naming names.now to) (record { heap = heap.old; work = work.old.items ++ visit_task node base ∷ []; done = done.old.items }) (record { heap = heap.new; work = work.new.items; done = done.new.items })) }
     ensures done { OnOk result (AllOlder (length heap.new.nodes) done.new.items) }
     ensures grows { Grows heap.old heap.new [] [] }
 {
@@ -463,10 +463,10 @@ fn visit(
 }
 
 /// Does a task that makes an abstraction.
-fn make_lam(heap: &mut Heap, depth: usize, done: &mut Vec<TermId>) -> Result<(), AllocError>
+pub(crate) fn make_lam(heap: &mut Heap, depth: usize, done: &mut Vec<TermId>) -> Result<(), AllocError>
     requires some { 0 < length done.old.items }
     requires done { AllOlder (length heap.old.nodes) done.old.items }
-    ensures steps { OnOk result ((ns : List ℕ) (to : ℕ) (work : List TaskOf) → Steps ns to (record { heap = heap.old; work = work ++ lam_task depth ∷ []; done = done.old.items }) (record { heap = heap.new; work = work; done = done.new.items })) }
+    ensures steps { OnOk result ((plan : Plan) (work : List TaskOf) → Steps plan (record { heap = heap.old; work = work ++ lam_task depth ∷ []; done = done.old.items }) (record { heap = heap.new; work = work; done = done.new.items })) }
     ensures done { OnOk result (AllOlder (length heap.new.nodes) done.new.items) }
     ensures grows { Grows heap.old heap.new [] [] }
 {
@@ -482,7 +482,7 @@ fn make_lam(heap: &mut Heap, depth: usize, done: &mut Vec<TermId>) -> Result<(),
 }
 
 /// Does a task that makes an application.
-fn make_app(
+pub(crate) fn make_app(
     alloc: Global,
     heap: &mut Heap,
     args: usize,
@@ -490,7 +490,7 @@ fn make_app(
 ) -> Result<(), AllocError>
     requires some { args < length done.old.items }
     requires done { AllOlder (length heap.old.nodes) done.old.items }
-    ensures steps { OnOk result ((ns : List ℕ) (to : ℕ) (work : List TaskOf) → Steps ns to (record { heap = heap.old; work = work ++ app_task args ∷ []; done = done.old.items }) (record { heap = heap.new; work = work; done = done.new.items })) }
+    ensures steps { OnOk result ((plan : Plan) (work : List TaskOf) → Steps plan (record { heap = heap.old; work = work ++ app_task args ∷ []; done = done.old.items }) (record { heap = heap.new; work = work; done = done.new.items })) }
     ensures done { OnOk result (AllOlder (length heap.new.nodes) done.new.items) }
     ensures grows { Grows heap.old heap.new [] [] }
 {
@@ -518,9 +518,9 @@ fn step(
     done: &mut Vec<TermId>,
 ) -> Result<(), AllocError>
     requires moves { IsMove names.now fixed to }
-    requires ready { IsReady names.now (length heap.old.nodes) (length done.old.items) task }
+    requires ready { IsReady (naming names.now to) (length heap.old.nodes) (length done.old.items) task }
     requires done { AllOlder (length heap.old.nodes) done.old.items }
-    ensures steps { OnOk result (Steps names.now to (record { heap = heap.old; work = work.old.items ++ task ∷ []; done = done.old.items }) (record { heap = heap.new; work = work.new.items; done = done.new.items })) }
+    ensures steps { OnOk result (Steps (naming names.now to) (record { heap = heap.old; work = work.old.items ++ task ∷ []; done = done.old.items }) (record { heap = heap.new; work = work.new.items; done = done.new.items })) }
     ensures done { OnOk result (AllOlder (length heap.new.nodes) done.new.items) }
     ensures grows { Grows heap.old heap.new [] [] }
 {
@@ -532,7 +532,7 @@ fn step(
 }
 
 /// The list of one task.
-fn first_task(alloc: Global, node: TermId, base: usize) -> Result<Vec<Task>, AllocError>
+pub(crate) fn first_task(alloc: Global, node: TermId, base: usize) -> Result<Vec<Task>, AllocError>
     ensures { IfOk result (λ work. work.items ≡ visit_task node base ∷ []) }
 {
     let mut work = Vec::new(alloc);

@@ -4,7 +4,7 @@ use Rattle.level_terms.specs.declared.node.Node.TheVariants.{App}
 use Rattle.level_terms.specs.declared.node.TermId.{TermId}
 use Rattle.level_terms.specs.Sound.{AllOlder}
 use Rattle.level_terms.proofs.GrowthLemmas.{grows-refl}
-use Rattle.beta_fragment.specs.Moves.{value_of, IsAppOf}
+use Rattle.beta_fragment.specs.Moves.{naming, value_of, IsAppOf}
 use Rattle.beta_fragment.proofs.MakeLemmas.{app-flattened, parts-there, older-append, head-none, head-other}
 use Rattle.beta_fragment.proofs.renaming.applied.Goals as goal
 

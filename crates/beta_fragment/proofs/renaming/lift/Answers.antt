@@ -1,6 +1,6 @@
 use Rattle.std.proofs.Common.{◌≡◌, ℕ, List, length, take, ap, sym, ◌∙◌, subst}
 use Rattle.std.proofs.lemmas.Result.{IfOk-weaker}
-use Rattle.beta_fragment.specs.Moves.{value_of, Moves}
+use Rattle.beta_fragment.specs.Moves.{naming, value_of, Moves}
 use Rattle.beta_fragment.proofs.LiftLemmas.{names-moved}
 use Rattle.beta_fragment.proofs.renaming.lift.Goals as goal
 

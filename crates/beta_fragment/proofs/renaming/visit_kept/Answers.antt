@@ -5,7 +5,7 @@ use Rattle.level_terms.specs.declared.node.TermId.{TermId}
 use Rattle.level_terms.proofs.GrowthLemmas.{grows-refl}
 use Rattle.level_terms.proofs.ValidLemmas.{growth_keeps_valid}
 use Rattle.beta_fragment.specs.Work.{Steps}
-use Rattle.beta_fragment.specs.Moves.{Value, value_of}
+use Rattle.beta_fragment.specs.Moves.{naming, Value, value_of}
 use Rattle.beta_fragment.specs.declared.renaming.Task.TheVariants.{Visit}
 use Rattle.beta_fragment.proofs.MakeLemmas.{older-append, value-kept}
 use Rattle.beta_fragment.proofs.ReadLemmas.{valid-below}
@@ -15,9 +15,9 @@ use Rattle.beta_fragment.proofs.renaming.visit_kept.Goals as goal
 
 pub returns-clause-steps : goal.returns-clause-steps
 returns-clause-steps c = λ work.
-    subst (λ (ds : List TermId). Steps c.args.names.now c.args.to (record { heap = c.args.heap.now; work = work ++ Visit c.args.node c.args.base ∷ []; done = c.args.done.now.items }) (record { heap = c.args.heap.now; work = work; done = ds }))
+    subst (λ (ds : List TermId). Steps (naming c.args.names.now c.args.to) (record { heap = c.args.heap.now; work = work ++ Visit c.args.node c.args.base ∷ []; done = c.args.done.now.items }) (record { heap = c.args.heap.now; work = work; done = ds }))
     (sym c.in_ok-push.ensures.items)
-    (steps-done c.args.names.now c.args.to c.args.heap.now c.args.heap.now work c.args.done.now.items c.args.node c.args.node c.args.base c.is_sound.ensures (grows-refl c.args.heap.now []) c.requires.done
+    (steps-done (naming c.args.names.now c.args.to) c.args.heap.now c.args.heap.now work c.args.done.now.items c.args.node c.args.node c.args.base c.is_sound.ensures (grows-refl c.args.heap.now []) c.requires.done
     (λ g s sg gr v low few.
     let below = valid-below g c.args.node.index s v in
     let same = value-kept g c.args.heap.now sg gr c.args.node below in

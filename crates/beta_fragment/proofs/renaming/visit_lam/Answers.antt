@@ -1,6 +1,7 @@
 use Rattle.std.proofs.Common.{◌≡◌, ◌<◌, ◌≤◌, ◌+◌, ◌-◌, ◌*◌, ◌++◌, ◌∷◌, [], List, Some, suc, length, reverse, min, refl, ap, ap₂, sym, ◌∙◌, subst, arith, append_assoc}
 use Rattle.level_terms.specs.declared.node.Node.TheVariants.{Lam as lam_node}
 use Rattle.level_terms.specs.declared.node.TermId.{TermId}
+use Rattle.beta_fragment.specs.Moves.{naming}
 use Rattle.beta_fragment.specs.Work.{Steps}
 use Rattle.beta_fragment.specs.declared.renaming.Task.{Task}
 use Rattle.beta_fragment.specs.declared.renaming.Task.TheVariants.{Visit, Lam}
@@ -20,8 +21,8 @@ returns c =
     ∙ ap₂ (λ d b. c.args.work.now.items ++ (Lam d ∷ Visit c.args.body b ∷ [])) deep inner in
     record {
       steps = λ done.
-          subst (λ (ws : List Task). Steps c.args.names.now c.args.to (record { heap = c.args.heap.now; work = c.args.work.now.items ++ Visit c.args.node c.args.base ∷ []; done = done }) (record { heap = c.args.heap.now; work = ws; done = done })) (sym pushed)
-          (steps-more c.args.names.now c.args.to c.args.heap.now c.args.work.now.items (Lam (c.args.depth - min c.args.base c.args.depth + c.args.to) ∷ Visit c.args.body (min c.args.base c.args.depth) ∷ []) (Visit c.args.body (min c.args.base c.args.depth) ∷ Lam (c.args.depth - min c.args.base c.args.depth + c.args.to) ∷ []) done c.args.node c.args.base refl
+          subst (λ (ws : List Task). Steps (naming c.args.names.now c.args.to) (record { heap = c.args.heap.now; work = c.args.work.now.items ++ Visit c.args.node c.args.base ∷ []; done = done }) (record { heap = c.args.heap.now; work = ws; done = done })) (sym pushed)
+          (steps-more (naming c.args.names.now c.args.to) c.args.heap.now c.args.work.now.items (Lam (c.args.depth - min c.args.base c.args.depth + c.args.to) ∷ Visit c.args.body (min c.args.base c.args.depth) ∷ []) (Visit c.args.body (min c.args.base c.args.depth) ∷ Lam (c.args.depth - min c.args.base c.args.depth + c.args.to) ∷ []) done c.args.node c.args.base refl
           (λ g sg gr s v. lam-falls c.args.names.now c.args.to g c.args.node c.args.body c.args.base c.args.depth sg (node-before g c.args.heap.now gr c.args.node.index _ (valid-below g c.args.node.index s v) c.requires.here))
           (λ g t base source k xs sg gr h. lam-leads c.args.names.now c.args.to g t base source c.args.node c.args.body c.args.base c.args.depth k xs sg c.requires.below (λ below. node-before g c.args.heap.now gr c.args.node.index _ below c.requires.here) h));
     }
