@@ -27,7 +27,7 @@ use Rattle.ref_terms.specs.laws.TermLaws.{AllBuilt}
 use Rattle.ref_terms.specs.lemmas.ComposeLemmas.{fill-lam}
 use Rattle.ref_terms.specs.lemmas.OccursLemmas.{fill_at}
 use Rattle.ref_terms.specs.lemmas.NameLemmas.{fill-agree_names}
-use Rattle.beta_fragment.specs.Moves.{Value, value_of, Plan, putting, Does, Puts, IsLamOf, IsAppOf, IsLevelOf, IsVarOf, IsPutLevel, ArePutLevels, around, put_name, Lacks}
+use Rattle.beta_fragment.specs.Moves.{Value, value_of, Plan, putting, Does, Puts, IsLamOf, IsAppOf, IsLevelOf, IsVarOf, IsPutLevel, ArePutLevels, IsPutVar, around, put_name, Lacks}
 use Rattle.beta_fragment.specs.Firm.{IsPlain, IsPlainNode}
 use Rattle.beta_fragment.proofs.ReadLemmas.{read-built}
 use Rattle.beta_fragment.proofs.EnterLemmas.{body-valid}
@@ -225,15 +225,21 @@ pub put-levels-more : (put : (ℕ → Term) → Term) (level k : ℕ) (xs : List
 put-levels-more put level k [] x w m = (subst (λ i. IsPutLevel put level i x) (let q : k + 0 ≡ k = omega arith in q) m, tt)
 put-levels-more put level k (y ∷ ys) x w m = (w.0, put-levels-more put level (suc k) ys x w.1 (subst (λ i. IsPutLevel put level i x) (let q : k + suc (length ys) ≡ suc k + length ys = omega arith in q) m))
 
-pub put-var : (g : Graph) (put : (ℕ → Term) → Term) (level t s : ℕ) (v : VarId) (h x : Value) (xs : List Value) → IsSound g → node_at g.nodes t ≡ Some (Var v) → value_in g.assigned v.index ≡ None → IsValid g t s → level < s →
-    IsVarOf v.index 0 h → ArePutLevels put level 0 xs → length xs ≡ slice_index g.depths v.index → IsAppOf h xs x → Puts g put level t s x
-put-var g put level t s v h x xs sound e free valid deep m w long a = record {
+pub put-var-applied : (put : (ℕ → Term) → Term) (level v depth : ℕ) (h x : Value) (xs : List Value) → IsVarOf v 0 h → ArePutLevels put level 0 xs → length xs ≡ depth → IsAppOf h xs x → IsPutVar put level v depth x
+put-var-applied put level v depth h x xs m w long a = record {
   term = λ env p k. a.term env p
     ∙ ap₂ apply_all (m.term env p) (levels-put put level 0 xs w env p k
       ∙ ap₂ (λ (n : ℕ) (f : ℕ → Term). map (fill (put_name level (put env))) (levels n f)) long (fun_ext (λ i. ap (around level env) (let q : 0 + i ≡ i = omega arith in q))))
-    ∙ sym (ap (fill (put_name level (put env))) (nodes_read g t (Var v) (around level env) sound (around-places level env p) e ∙ ap (λ o. variable_reads g v.index o (around level env)) free)
-      ∙ fill-spine (put_name level (put env)) (levels (slice_index g.depths v.index) (around level env)) (At (term.Var v.index)) tt);
+    ∙ sym (fill-spine (put_name level (put env)) (levels depth (around level env)) (At (term.Var v)) tt);
+  holds = λ f q r. a.holds f (m.holds f (omega arith)) (levels-all put level 0 xs w f q (omega (arith, r, long)));
+}
+
+pub put-var : (g : Graph) (put : (ℕ → Term) → Term) (level t s : ℕ) (v : VarId) (x : Value) → IsSound g → node_at g.nodes t ≡ Some (Var v) → value_in g.assigned v.index ≡ None → IsValid g t s → level < s →
+    IsPutVar put level v.index (slice_index g.depths v.index) x → Puts g put level t s x
+put-var g put level t s v x sound e free valid deep m = record {
+  term = λ env p k. m.term env p k
+    ∙ sym (ap (fill (put_name level (put env))) (nodes_read g t (Var v) (around level env) sound (around-places level env p) e ∙ ap (λ o. variable_reads g v.index o (around level env)) free));
   holds = λ f q.
     let low : slice_index g.depths v.index < suc s = below_from (slice_index g.depths v.index) (suc s) (sym (nodes_valid g t (Var v) s sound e) ∙ valid) in
-    a.holds f (m.holds f (omega arith)) (levels-all put level 0 xs w f (omega (arith, deep, q)) (omega (arith, low, long, deep, q)));
+    m.holds f (omega (arith, deep, q)) (omega (arith, low, deep, q));
 }

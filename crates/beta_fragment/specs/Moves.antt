@@ -117,3 +117,8 @@ pub record IsPutLevel (put : (ℕ → Term) → Term) (level i : ℕ) (x : Value
 abbrev pub ArePutLevels : ((ℕ → Term) → Term) → (level k : ℕ) → List Value → Type 0
 ArePutLevels put level k [] = Unit {0}
 ArePutLevels put level k (x ∷ xs) = IsPutLevel put level k x × ArePutLevels put level (suc k) xs
+
+-- a variable that has no value, with a term in the place of one of its levels
+pub record IsPutVar (put : (ℕ → Term) → Term) (level v depth : ℕ) (x : Value) : Type 0 where
+  pub term : (env : ℕ → Term) → ArePlaces env → Lacks level env → x.term env ≡ fill (put_name level (put env)) (apply_all (At (Var v)) (levels depth (around level env)))
+  pub holds : (e : ℕ) → level ≤ e → depth ≤ e + 1 → x.holds e ≡ true
