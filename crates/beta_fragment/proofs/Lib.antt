@@ -16,3 +16,4 @@ pub mod OpenLemmas
 pub mod NamelessLemmas
 pub mod PutLemmas
 pub mod PutWork
+pub mod FilledLemmas

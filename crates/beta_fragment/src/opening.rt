@@ -12,7 +12,8 @@ ghost use Rattle.beta_fragment.specs.Body.{IsLam, opened_reads, at_name};
 
 use crate::glance::{Readiness, looked_at};
 use crate::head::own_levels;
-use crate::renaming::moved_node;
+use crate::putting::put_node;
+use crate::renaming::{moved_node, sum_of};
 use level_terms::{Heap, Node, TermId};
 use std::alloc::{AllocError, Global};
 
@@ -40,7 +41,7 @@ pub fn contract(
             let body = *body;
             match looked_at(heap, arg) {
                 Readiness::Level(k) => opened(alloc, heap, lam, made, body, k, depth),
-                _ => Err(AllocError),
+                _ => filled(alloc, heap, lam, made, body, arg, depth),
             }
         }
         _ => unreachable!(),
@@ -72,4 +73,30 @@ pub(crate) fn opened(
     let mut levels = own_levels(alloc, made)?;
     levels.push(name)?;
     moved_node(alloc, heap, levels.as_slice(), made, to, body)
+}
+
+/// The body of an abstraction with a term for its own name: the body is renamed to a new name, and
+/// the term is put in its place. Where that takes reduction it answers `AllocError`.
+fn filled(
+    alloc: Global,
+    heap: &mut Heap,
+    lam: TermId,
+    made: usize,
+    body: TermId,
+    arg: TermId,
+    depth: usize,
+) -> Result<TermId, AllocError>
+    requires here { node_at heap.old.nodes lam.index ≡ Some (lam_node made body) }
+    requires valid { IsValid heap.old lam.index made }
+    requires low { made ≤ depth }
+    requires argument { IsValid heap.old arg.index depth }
+    ensures reads { IfOk result (λ r. read heap.new r.index names ≡ opened_reads heap.old made body.index (read heap.old arg.index names)) }
+    ensures valid { IfOk result (λ r. IsValid heap.new r.index depth) }
+    ensures grows { Grows heap.old heap.new [] [] }
+{
+    heap.is_sound();
+    let inner = sum_of(depth, 1)?;
+    let open = opened(alloc, heap, lam, made, body, depth, inner)?;
+    heap.is_sound();
+    put_node(alloc, heap, arg, depth, open)
 }

@@ -33,8 +33,11 @@ put_kept-requires-in-Str-clause-valid c = λ s v. str-stays c.args.heap.now c.ar
 pub returns-else-depth-level-clause-grows : goal.returns-else-depth-level-clause-grows
 returns-else-depth-level-clause-grows c = grows-refl c.args.heap.now []
 
-pub returns-in-App-clause-grows : goal.returns-in-App-clause-grows
-returns-in-App-clause-grows c = grows-refl c.args.heap.now []
+pub returns-then-is_plain-clause-grows : goal.returns-then-is_plain-clause-grows
+returns-then-is_plain-clause-grows c = grows-refl c.args.heap.now []
+
+pub returns-else-is_plain-clause-grows : goal.returns-else-is_plain-clause-grows
+returns-else-is_plain-clause-grows c = grows-refl c.args.heap.now []
 
 pub returns-in-Con-clause-grows : goal.returns-in-Con-clause-grows
 returns-in-Con-clause-grows c = grows-refl c.args.heap.now []
