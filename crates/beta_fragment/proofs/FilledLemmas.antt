@@ -92,10 +92,10 @@ body-low depth made i low h = go (nat_eq made i) refl
     go true e = refl
     go false e = let lt = step_down made i e h in ap shift (low-same depth i (omega (arith, lt, low)))
 
-pub filled-reads : (g h k : Graph) (depth made : ℕ) (body arg open r : TermId) → IsSound g → IsSound h → IsSound k → made ≤ depth → IsValid g body.index (suc made) →
-    read h open.index names ≡ read g body.index (at_name made depth) → IsValid h open.index (depth + 1) → (read h arg.index ≡ read g arg.index) → IsValid g arg.index depth →
-    Puts h (read h arg.index) depth open.index (depth + 1) (value_of k r) → IsValid k r.index depth → read k r.index names ≡ opened_reads g made body.index (read g arg.index names)
-filled-reads g h k depth made body arg open r sg sh sk low vb reads vo same va m vr =
+pub filled-reads : (g h k : Graph) (depth made : ℕ) (body arg node r : TermId) → IsSound g → made ≤ depth → IsValid g body.index (suc made) →
+    read h node.index names ≡ read g body.index (at_name made depth) → IsValid h node.index (depth + 1) → (read h arg.index ≡ read g arg.index) → IsValid g arg.index depth →
+    Puts h (read h arg.index) depth node.index (depth + 1) (value_of k r) → IsValid k r.index depth → read k r.index names ≡ opened_reads g made body.index (read g arg.index names)
+filled-reads g h k depth made body arg node r sg low vb reads vo same va m vr =
     let named : read g body.index (at_name made depth) ≡ sub (first (names depth)) (read g body.index (enter made names)) =
         ap (read g body.index) (fun_ext (λ i. sym (entered made (names depth) names i))) ∙ sym (read-follows g sg body.index (enter made names) (first (names depth)) (first-places (names depth) tt)) in
     let lacks : has_name depth (read g body.index (enter made names)) ≡ false =
@@ -105,5 +105,5 @@ filled-reads g h k depth made body arg open r sg sh sk low vb reads vo same va m
     ∙ m.term (low_names depth) (low-places depth) (low-lack depth)
     ∙ ap₂ (λ (s b : Term). fill (put_name depth s) b)
       (ap (λ f. f (low_names depth)) same ∙ sym (readings_local g arg.index depth names (low_names depth) va (λ i q. low-same depth i q)))
-      (readings_local h open.index (depth + 1) (around depth (low_names depth)) names vo (λ i q. around-same depth i (omega (arith, q))) ∙ reads ∙ named)
+      (readings_local h node.index (depth + 1) (around depth (low_names depth)) names vo (λ i q. around-same depth i (omega (arith, q))) ∙ reads ∙ named)
     ∙ named-open depth (read g arg.index names) (read g body.index (enter made names)) lacks

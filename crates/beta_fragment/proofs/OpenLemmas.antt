@@ -76,3 +76,10 @@ contract-reads g t made d body other k s sound e f q =
     ∙ sym (opening-is-replacing (read g body.index (enter made names)) (names k) (read-built g body.index (enter made names)) (ready-name k))
     ∙ ap₂ (λ (n : ℕ) (b : TermId). open_with (read g b.index (enter n names)) (names k)) depths bodies
     ∙ ap (open_with (read g other.index (enter d names))) (sym q)
+
+pub same-body : (g : Graph) (t made d : ℕ) (body other : TermId) (s : Term) → node_at g.nodes t ≡ Some (Lam made body) → node_at g.nodes t ≡ Some (Lam d other) → opened_reads g made body.index s ≡ opened_reads g d other.index s
+same-body g t made d body other s e f =
+    let same : Some (Lam made body) ≡ Some (Lam d other) = sym e ∙ f in
+    let depths : made ≡ d = cc in
+    let bodies : body ≡ other = cc in
+    ap₂ (λ (n : ℕ) (b : TermId). opened_reads g n b.index s) depths bodies

@@ -96,7 +96,7 @@ fn filled(
 {
     heap.is_sound();
     let inner = sum_of(depth, 1)?;
-    let open = opened(alloc, heap, lam, made, body, depth, inner)?;
+    let named = opened(alloc, heap, lam, made, body, depth, inner)?;
     heap.is_sound();
-    put_node(alloc, heap, arg, depth, open)
+    put_node(alloc, heap, arg, depth, named)
 }

@@ -4,7 +4,7 @@ use Rattle.level_terms.proofs.GrowthLemmas.{grows-refl}
 use Rattle.beta_fragment.proofs.ReadLemmas.{valid-below}
 use Rattle.beta_fragment.proofs.StayLemmas.{lam-stays}
 use Rattle.beta_fragment.proofs.HeadLemmas.{lam-within}
-use Rattle.beta_fragment.proofs.OpenLemmas.{contract-reads}
+use Rattle.beta_fragment.proofs.OpenLemmas.{contract-reads, same-body}
 use Rattle.beta_fragment.proofs.opening.contract.Goals as goal
 
 pub view-requires : goal.view-requires
@@ -24,5 +24,15 @@ returns-in-Level-clause-reads c = IfOk-weaker c.opened.result _ _
     (λ r e d body here. e ∙ contract-reads c.args.heap.now c.args.lam.index c.in-Lam.made d c.in-Lam.body body c.in-Level.k _ c.is_sound.ensures (c.view.ensures ∙ ap Some c.in-Lam.is) here (c.in-Level.ensures c.args.depth c.requires.argument).0)
     c.opened.ensures.reads
 
-pub returns-in_default-looked_at-clause-grows : goal.returns-in_default-looked_at-clause-grows
-returns-in_default-looked_at-clause-grows c = grows-refl c.args.heap.now []
+pub filled-requires : goal.filled-requires
+filled-requires c = record {
+  here = c.view.ensures ∙ ap Some c.in-Lam.is;
+  valid = lam-stays c.args.heap.now c.args.lam.index c.in-Lam.made c.in-Lam.body c.args.depth c.is_sound.ensures (c.view.ensures ∙ ap Some c.in-Lam.is) c.requires.valid;
+  low = lam-within c.args.heap.now c.args.lam.index c.in-Lam.made c.in-Lam.body c.args.depth c.is_sound.ensures (c.view.ensures ∙ ap Some c.in-Lam.is) c.requires.valid;
+  argument = c.requires.argument;
+}
+
+pub returns-in_default-looked_at-clause-reads : goal.returns-in_default-looked_at-clause-reads
+returns-in_default-looked_at-clause-reads c = IfOk-weaker c.filled.result _ _
+    (λ r e d body here. e ∙ same-body c.args.heap.now c.args.lam.index c.in-Lam.made d c.in-Lam.body body _ (c.view.ensures ∙ ap Some c.in-Lam.is) here)
+    c.filled.ensures.reads
