@@ -201,7 +201,7 @@ other-app g t depth k ts s e w long env p q =
 eta-app : (f a : Term) → IsPlain f → (a ≡ At (term.Bound 0) → ⊥) → eta (apply f a) ≡ None
 eta-app f a w h = ap eta (apply-plain f a w) ∙ on_other a (lower f) h
 
-apply_all-end : (xs : List Term) (t x : Term) → apply_all t (xs ++ x ∷ []) ≡ apply (apply_all t xs) x
+pub apply_all-end : (xs : List Term) (t x : Term) → apply_all t (xs ++ x ∷ []) ≡ apply (apply_all t xs) x
 apply_all-end [] t x = refl
 apply_all-end (y ∷ xs) t x = apply_all-end xs (apply t y) x
 

@@ -17,3 +17,4 @@ pub mod NamelessLemmas
 pub mod PutLemmas
 pub mod PutWork
 pub mod FilledLemmas
+pub mod LevelLemmas

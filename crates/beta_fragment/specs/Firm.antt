@@ -1,15 +1,16 @@
 -- What is certain of a term at a glance.
-use Rattle.std.specs.Prelude.{◌≡◌, ℕ, ◌<◌, false, List, Option, Some, None, reverse}
+use Rattle.std.specs.Prelude.{◌≡◌, ℕ, ◌<◌, ◌⊎◌, false, List, [], ◌∷◌, length, map, Option, Some, None, reverse}
 use Rattle.level_terms.specs.declared.node.Node.{Node}
 use Rattle.level_terms.specs.declared.node.Node.TheVariants.{App}
 use Rattle.level_terms.specs.declared.node.TermId.{TermId}
 use Rattle.level_terms.specs.Graph.{Graph}
 use Rattle.level_terms.specs.Laws.{ArePlaces}
 use Rattle.level_terms.specs.Valid.{IsValid}
+use Rattle.level_terms.specs.Sound.{AllOlder}
 use Rattle.level_terms.specs.Reading.{read, enter}
 use Rattle.ref_terms.specs.terms.Term as term
 use Rattle.ref_terms.specs.terms.Term.{Term, Head}
-use Rattle.ref_terms.specs.terms.Eta.{eta}
+use Rattle.ref_terms.specs.terms.Eta.{eta, partial}
 use Rattle.ref_terms.specs.terms.Ready.{ready}
 use Rattle.ref_terms.specs.unification.Spine.{apply_all, head_of}
 use Rattle.beta_fragment.specs.Names.{names, renamed, AllBelow}
@@ -64,3 +65,20 @@ IsReadiness depth u Unknown = Unit {0}
 pub record IsSpine (g : Graph) (depth : ℕ) (u : Term) (head : ℕ) (levels : List ℕ) (args : List TermId) : Type 0 where
   pub reads : u ≡ apply_all (read g head (renamed levels)) (all_read g (reverse args))
   pub valid : AllValidAt g (reverse args) depth
+
+-- one of the terms has no image
+abbrev pub NoneAmong : (ℕ → Option ℕ) → List Term → Type 0
+NoneAmong p [] = ⊥
+NoneAmong p (x ∷ xs) = (partial p x ≡ None) ⊎ NoneAmong p xs
+
+-- the level stands in the node: whatever has no image of its term has none of the node's
+abbrev pub HasLevel : Graph → (level t : ℕ) → Type 0
+HasLevel g level t = (env : ℕ → Term) (p : ℕ → Option ℕ) → ArePlaces env → partial p (env level) ≡ None → partial p (read g t env) ≡ None
+
+-- so in one of some nodes
+abbrev pub SomeHas : Graph → (level : ℕ) → List TermId → Type 0
+SomeHas g level ts = (env : ℕ → Term) (p : ℕ → Option ℕ) → ArePlaces env → partial p (env level) ≡ None → NoneAmong p (map (λ t. read g t.index env) ts)
+
+-- each term is there
+abbrev pub AllThere : Graph → List TermId → Type 0
+AllThere g ts = AllOlder (length g.nodes) ts

@@ -1,12 +1,12 @@
 //! What is certain of a term at a glance, without making a node.
 
-ghost use Rattle.std.specs.Prelude.{◌≡◌, ℕ, ◌<◌, ◌≤◌, length, IsTrue, None, IfSome};
+ghost use Rattle.std.specs.Prelude.{◌≡◌, ℕ, ◌<◌, ◌≤◌, ◌-◌, length, take, IsTrue, None, IfSome};
 ghost use Rattle.level_terms.specs.Graph.{node_at, value_in};
 ghost use Rattle.level_terms.specs.Valid.{IsValid};
 ghost use Rattle.level_terms.specs.Reading.{read};
 ghost use Rattle.beta_fragment.specs.Names.{names};
 ghost use Rattle.beta_fragment.specs.Moves.{IsVarOf, value_of};
-ghost use Rattle.beta_fragment.specs.Firm.{IsFirmNode, IsPlainNode, IsAbstractionNode, EndsOtherwise, IsOther, IsReadiness};
+ghost use Rattle.beta_fragment.specs.Firm.{IsFirmNode, IsPlainNode, IsAbstractionNode, EndsOtherwise, IsOther, IsReadiness, HasLevel, SomeHas, AllThere};
 
 use level_terms::{Heap, Node, TermId, VarId};
 
@@ -123,6 +123,82 @@ fn is_other(heap: &Heap, t: TermId, depth: usize) -> bool
     }
 }
 
+/// Whether one of the nodes is the level.
+fn is_among(heap: &Heap, nodes: &[TermId], level: usize) -> bool
+    requires { AllThere heap.now nodes.now }
+    ensures { IsTrue result → SomeHas heap.now level nodes.now }
+{
+    heap.is_sound();
+    for t in nodes {
+        if is_level(heap, *t, level) {
+            return true;
+        }
+    }
+    false
+}
+
+/// Whether the node is the level.
+fn is_level(heap: &Heap, t: TermId, level: usize) -> bool
+    requires { t.index < length heap.now.nodes }
+    ensures { IsTrue result → HasLevel heap.now level t.index }
+{
+    heap.is_sound();
+    match heap.view(t) {
+        Node::Level(l) => are_same(*l, level),
+        _ => false,
+    }
+}
+
+/// Whether two levels are one.
+fn are_same(a: usize, b: usize) -> bool
+    ensures { IsTrue result → a ≡ b }
+{
+    a == b
+}
+
+/// Whether the node is certain to have the level in it, as it is seen at a glance.
+fn has_level(heap: &Heap, t: TermId, level: usize) -> bool
+    requires { t.index < length heap.now.nodes }
+    ensures { IsTrue result → HasLevel heap.now level t.index }
+{
+    heap.is_sound();
+    match heap.view(t) {
+        Node::App { head, args } => {
+            if !is_plain(heap, *head) {
+                return false;
+            }
+            is_among(heap, args.as_slice(), level)
+        }
+        _ => is_level(heap, t, level),
+    }
+}
+
+/// The same of one of the nodes but the last.
+fn front_has_level(heap: &Heap, nodes: &[TermId], level: usize) -> bool
+    requires { AllThere heap.now nodes.now }
+    ensures { IsTrue result → SomeHas heap.now level (take (length nodes.now - 1) nodes.now) }
+{
+    heap.is_sound();
+    if nodes.is_empty() {
+        return false;
+    }
+    some_has_level(heap, &nodes[..nodes.len() - 1], level)
+}
+
+/// The same of one of the nodes.
+fn some_has_level(heap: &Heap, nodes: &[TermId], level: usize) -> bool
+    requires { AllThere heap.now nodes.now }
+    ensures { IsTrue result → SomeHas heap.now level nodes.now }
+{
+    heap.is_sound();
+    for t in nodes {
+        if has_level(heap, *t, level) {
+            return true;
+        }
+    }
+    false
+}
+
 /// Whether the node, the body of an abstraction that was made at the depth, is certain not to end
 /// in the abstracted name.
 fn ends_otherwise(heap: &Heap, t: TermId, depth: usize) -> bool
@@ -137,7 +213,15 @@ fn ends_otherwise(heap: &Heap, t: TermId, depth: usize) -> bool
         Node::Level(_) => true,
         Node::Var(v) => is_within(heap.var_depth(*v), depth),
         Node::App { head, args } => match args.as_slice().last() {
-            Some(last) => is_plain(heap, *head) && is_other(heap, *last, depth),
+            Some(last) => {
+                if !is_plain(heap, *head) {
+                    return false;
+                }
+                if is_other(heap, *last, depth) {
+                    return true;
+                }
+                front_has_level(heap, args.as_slice(), depth)
+            }
             None => false,
         },
         Node::Lam { .. } => false,
