@@ -97,13 +97,13 @@ pub filled-reads : (g h k : Graph) (depth made : ℕ) (body arg node r : TermId)
     Puts h (read h arg.index) depth node.index (depth + 1) (value_of k r) → IsValid k r.index depth → read k r.index names ≡ opened_reads g made body.index (read g arg.index names)
 filled-reads g h k depth made body arg node r sg low vb reads vo same va m vr =
     let named : read g body.index (at_name made depth) ≡ sub (first (names depth)) (read g body.index (enter made names)) =
-        ap (read g body.index) (fun_ext (λ i. sym (entered made (names depth) names i))) ∙ sym (read-follows g sg body.index (enter made names) (first (names depth)) (first-places (names depth) tt)) in
+    ap (read g body.index) (fun_ext (λ i. sym (entered made (names depth) names i))) ∙ sym (read-follows g sg body.index (enter made names) (first (names depth)) (first-places (names depth) tt)) in
     let lacks : has_name depth (read g body.index (enter made names)) ≡ false =
-        ap (has_name depth) (readings_local g body.index (suc made) (enter made names) (enter made (low_names depth)) vb (λ i q. body-low depth made i low q))
-        ∙ nameless-read depth g body.index (enter made (low_names depth)) (lacks-enter depth made (low_names depth) (low-lack depth)) in
+    ap (has_name depth) (readings_local g body.index (suc made) (enter made names) (enter made (low_names depth)) vb (λ i q. body-low depth made i low q))
+    ∙ nameless-read depth g body.index (enter made (low_names depth)) (lacks-enter depth made (low_names depth) (low-lack depth)) in
     readings_local k r.index depth names (low_names depth) vr (λ i q. low-same depth i q)
     ∙ m.term (low_names depth) (low-places depth) (low-lack depth)
     ∙ ap₂ (λ (s b : Term). fill (put_name depth s) b)
-      (ap (λ f. f (low_names depth)) same ∙ sym (readings_local g arg.index depth names (low_names depth) va (λ i q. low-same depth i q)))
-      (readings_local h node.index (depth + 1) (around depth (low_names depth)) names vo (λ i q. around-same depth i (omega (arith, q))) ∙ reads ∙ named)
+    (ap (λ f. f (low_names depth)) same ∙ sym (readings_local g arg.index depth names (low_names depth) va (λ i q. low-same depth i q)))
+    (readings_local h node.index (depth + 1) (around depth (low_names depth)) names vo (λ i q. around-same depth i (omega (arith, q))) ∙ reads ∙ named)
     ∙ named-open depth (read g arg.index names) (read g body.index (enter made names)) lacks

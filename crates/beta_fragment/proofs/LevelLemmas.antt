@@ -5,7 +5,7 @@ use Rattle.level_terms.specs.declared.node.Node.TheVariants.{Level, App}
 use Rattle.level_terms.specs.declared.node.TermId.{TermId}
 use Rattle.level_terms.specs.Graph.{Graph, node_at}
 use Rattle.level_terms.specs.Laws.{ArePlaces}
-use Rattle.level_terms.specs.Sound.{IsSound}
+use Rattle.level_terms.specs.Sound.{IsSound, AllOlder}
 use Rattle.level_terms.specs.Reading.{read, enter}
 use Rattle.level_terms.proofs.CoverLemmas.{places-enter}
 use Rattle.level_terms.proofs.NodeLemmas.{nodes_read}
@@ -77,9 +77,19 @@ repeats-ends g t depth k u ts front s e split plain some env w =
     let none = args-none previous (map (λ z. read g z.index (enter depth env)) front) (read g k.index (enter depth env)) (plain (enter depth env) places) among in
     let flat = apply_all-plain (map (λ z. read g z.index (enter depth env)) front) (read g k.index (enter depth env)) (plain (enter depth env) places) in
     ap eta (nodes_read g t (App k ts) (enter depth env) s places e
-      ∙ ap (λ (us : List TermId). apply_all (read g k.index (enter depth env)) (map (λ z. read g z.index (enter depth env)) us)) split
-      ∙ ap (apply_all (read g k.index (enter depth env))) (map-append (λ z. read g z.index (enter depth env)) front (u ∷ []))
-      ∙ apply_all-end (map (λ z. read g z.index (enter depth env)) front) (read g k.index (enter depth env)) (read g u.index (enter depth env))
-      ∙ apply-plain (apply_all (read g k.index (enter depth env)) (map (λ z. read g z.index (enter depth env)) front)) (read g u.index (enter depth env)) flat)
+    ∙ ap (λ (us : List TermId). apply_all (read g k.index (enter depth env)) (map (λ z. read g z.index (enter depth env)) us)) split
+    ∙ ap (apply_all (read g k.index (enter depth env))) (map-append (λ z. read g z.index (enter depth env)) front (u ∷ []))
+    ∙ apply_all-end (map (λ z. read g z.index (enter depth env)) front) (read g k.index (enter depth env)) (read g u.index (enter depth env))
+    ∙ apply-plain (apply_all (read g k.index (enter depth env)) (map (λ z. read g z.index (enter depth env)) front)) (read g u.index (enter depth env)) flat)
     ∙ ap (on_index (read g u.index (enter depth env))) none
     ∙ on_none (read g u.index (enter depth env))
+
+pub older-at : (m : ℕ) (ts : List TermId) (i : ℕ) (d : TermId) → i < length ts → AllOlder m ts → (get_or ts i d).index < m
+older-at m [] i d h w = absurd (omega (arith, h))
+older-at m (t ∷ ts) zero d h w = w.0
+older-at m (t ∷ ts) (suc i) d h w = older-at m ts i d (omega (arith, h)) w.1
+
+pub older-take : (m n : ℕ) (ts : List TermId) → AllOlder m ts → AllOlder m (take n ts)
+older-take m zero ts w = tt
+older-take m (suc n) [] w = tt
+older-take m (suc n) (t ∷ ts) w = (w.0, older-take m n ts w.1)

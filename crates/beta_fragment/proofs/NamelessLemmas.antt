@@ -83,8 +83,8 @@ nameless-values n nodes depths (a ∷ older) v =
     let before = nameless-values n nodes depths older in
     nameless-fill n (only a.variable (inst_all (values_of nodes depths older) (value_term nodes depths a)))
     (only-lacks n a.variable (inst_all (values_of nodes depths older) (value_term nodes depths a))
-      (nameless-fill n (valued (values_of nodes depths older)) (valued-lacks n (values_of nodes depths older) (nameless-values n nodes depths older)) (value_term nodes depths a)
-        (nameless-closed n nodes depths 0 (slice_index depths a.variable) a.value (λ i. At (term.Bound i)) (λ i. refl))))
+    (nameless-fill n (valued (values_of nodes depths older)) (valued-lacks n (values_of nodes depths older) (nameless-values n nodes depths older)) (value_term nodes depths a)
+    (nameless-closed n nodes depths 0 (slice_index depths a.variable) a.value (λ i. At (term.Bound i)) (λ i. refl))))
     (values_of nodes depths older v) (nameless-values n nodes depths older v)
 
 pub nameless-read : (n : ℕ) (g : Graph) (t : ℕ) (env : ℕ → Term) → Lacks n env → has_name n (read g t env) ≡ false

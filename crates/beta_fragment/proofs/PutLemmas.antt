@@ -146,16 +146,16 @@ around-inner level d env deep i h = go (nat_eq d i) refl
 pub put-lam : (g : Graph) (put : (ℕ → Term) → Term) (level t s d : ℕ) (b : TermId) (y x : Value) → IsSound g → CanPut put level → node_at g.nodes t ≡ Some (Lam d b) → IsValid g t s → level < d → Puts g put level b.index (suc d) y → IsLamOf (d - 1) y x → Puts g put level t s x
 put-lam g put level t s d b y x sound can e v deep m w = record {
   term = λ env p k.
-    w.term env p
-    ∙ ap lam (m.term (enter (d - 1) env) (places-enter (d - 1) env p) (lacks-enter level (d - 1) env k)
+      w.term env p
+      ∙ ap lam (m.term (enter (d - 1) env) (places-enter (d - 1) env p) (lacks-enter level (d - 1) env k)
       ∙ ap₂ (λ (r : Head → Term) (z : Term). fill r z)
-        (fun_ext (λ h. ap (λ z. put_name level z h) (can.enters (d - 1) env (omega (arith, deep))) ∙ sym (put-below level (put env) h)))
-        (sym (readings_local g b.index (suc d) (enter d (around level env)) (around level (enter (d - 1) env)) (body-valid g sound t d b s e v) (around-inner level d env deep))))
-    ∙ sym (fill-lam (put_name level (put env)) (put-built level (put env) (can.built env)) (read g b.index (enter d (around level env))))
-    ∙ ap (fill (put_name level (put env))) (sym (nodes_read g t (Lam d b) (around level env) sound (around-places level env p) e));
+      (fun_ext (λ h. ap (λ z. put_name level z h) (can.enters (d - 1) env (omega (arith, deep))) ∙ sym (put-below level (put env) h)))
+      (sym (readings_local g b.index (suc d) (enter d (around level env)) (around level (enter (d - 1) env)) (body-valid g sound t d b s e v) (around-inner level d env deep))))
+      ∙ sym (fill-lam (put_name level (put env)) (put-built level (put env) (can.built env)) (read g b.index (enter d (around level env))))
+      ∙ ap (fill (put_name level (put env))) (sym (nodes_read g t (Lam d b) (around level env) sound (around-places level env p) e));
   holds = λ f q.
-    let low : d < suc s = below_from d (suc s) (and_left _ _ (sym (nodes_valid g t (Lam d b) s sound e) ∙ v)) in
-    w.holds (m.holds (d - 1 + 1) (omega (arith, deep))) f (omega (arith, low, q));
+      let low : d < suc s = below_from d (suc s) (and_left _ _ (sym (nodes_valid g t (Lam d b) s sound e) ∙ v)) in
+      w.holds (m.holds (d - 1 + 1) (omega (arith, deep))) f (omega (arith, low, q));
 }
 
 -- an application whose head is no abstraction
@@ -182,8 +182,8 @@ pub put-app : (g : Graph) (put : (ℕ → Term) → Term) (level t base s : ℕ)
     Puts g put level k.index s h → AllMove g (putting put level) base s ts xs → IsAppOf h xs x → Puts g put level t s x
 put-app g put level t base s k ts h x xs sound e plain m ms w = record {
   term = λ env p l. w.term env p
-    ∙ ap₂ apply_all (m.term env p l) (terms-put g put level base s ts xs ms env p l)
-    ∙ sym (ap (fill (put_name level (put env))) (nodes_read g t (App k ts) (around level env) sound (around-places level env p) e)
+      ∙ ap₂ apply_all (m.term env p l) (terms-put g put level base s ts xs ms env p l)
+      ∙ sym (ap (fill (put_name level (put env))) (nodes_read g t (App k ts) (around level env) sound (around-places level env p) e)
       ∙ fill-spine (put_name level (put env)) (map (λ u. read g u.index (around level env)) ts) (read g k.index (around level env)) (plain (around level env) (around-places level env p)));
   holds = λ f q. w.holds f (m.holds f q) (all-put g put level base s ts xs ms f q);
 }
@@ -192,18 +192,18 @@ put-app g put level t base s k ts h x xs sound e plain m ms w = record {
 pub put-value : (g : Graph) (put : (ℕ → Term) → Term) (level t s value : ℕ) (v : VarId) (x : Value) → IsSound g → node_at g.nodes t ≡ Some (Var v) → value_in g.assigned v.index ≡ Some value → IsValid g t s → Puts g put level value (slice_index g.depths v.index) x → Puts g put level t s x
 put-value g put level t s value v x sound e f valid m = record {
   term = λ env p k. m.term env p k
-    ∙ ap (fill (put_name level (put env))) (sym (nodes_read g t (Var v) (around level env) sound (around-places level env p) e ∙ ap (λ o. variable_reads g v.index o (around level env)) f));
+      ∙ ap (fill (put_name level (put env))) (sym (nodes_read g t (Var v) (around level env) sound (around-places level env p) e ∙ ap (λ o. variable_reads g v.index o (around level env)) f));
   holds = λ d q.
-    let deep : slice_index g.depths v.index < suc s = below_from (slice_index g.depths v.index) (suc s) (sym (nodes_valid g t (Var v) s sound e) ∙ valid) in
-    m.holds d (omega (arith, deep, q));
+      let deep : slice_index g.depths v.index < suc s = below_from (slice_index g.depths v.index) (suc s) (sym (nodes_valid g t (Var v) s sound e) ∙ valid) in
+      m.holds d (omega (arith, deep, q));
 }
 
 -- a node that the level isn't in
 pub put-kept : (g : Graph) (put : (ℕ → Term) → Term) (level t s : ℕ) (x : Value) → IsValid g t level → level < s → x.term ≡ read g t → x.holds ≡ valid g.nodes g.depths t → Puts g put level t s x
 put-kept g put level t s x v deep e h = record {
   term = λ env p k. ap (λ r. r env) e
-    ∙ sym (put-absent level (put env) (read g t env) (read-built g t env) (nameless-read level g t env k))
-    ∙ ap (fill (put_name level (put env))) (readings_local g t level env (around level env) v (λ i l. sym (around-low level env i l)));
+      ∙ sym (put-absent level (put env) (read g t env) (read-built g t env) (nameless-read level g t env k))
+      ∙ ap (fill (put_name level (put env))) (readings_local g t level env (around level env) v (λ i l. sym (around-low level env i l)));
   holds = λ d q. ap (λ r. r d) h ∙ valid_deeper g t level d v (omega (arith, deep, q));
 }
 
@@ -215,7 +215,7 @@ levels-put put level k (x ∷ xs) w env p l =
     let here : around level env k ≡ around level env (k + 0) = ap (around level env) (let q : k ≡ k + 0 = omega arith in q) in
     ap₂ (λ (y : Term) (ys : List Term). y ∷ ys) (w.0.term env p l ∙ ap (fill (put_name level (put env))) here)
     (levels-put put level (suc k) xs w.1 env p l
-      ∙ ap (λ (f : ℕ → Term). map (fill (put_name level (put env))) (levels (length xs) f)) (fun_ext (λ i. ap (around level env) (let q : suc k + i ≡ k + suc i = omega arith in q))))
+    ∙ ap (λ (f : ℕ → Term). map (fill (put_name level (put env))) (levels (length xs) f)) (fun_ext (λ i. ap (around level env) (let q : suc k + i ≡ k + suc i = omega arith in q))))
 
 levels-all : (put : (ℕ → Term) → Term) (level k : ℕ) (xs : List Value) → ArePutLevels put level k xs → (e : ℕ) → level ≤ e → k + length xs ≤ e + 1 → list_all (λ (y : Value). y.holds e) xs ≡ true
 levels-all put level k [] w e a h = refl
@@ -228,9 +228,9 @@ put-levels-more put level k (y ∷ ys) x w m = (w.0, put-levels-more put level (
 pub put-var-applied : (put : (ℕ → Term) → Term) (level v depth : ℕ) (h x : Value) (xs : List Value) → IsVarOf v 0 h → ArePutLevels put level 0 xs → length xs ≡ depth → IsAppOf h xs x → IsPutVar put level v depth x
 put-var-applied put level v depth h x xs m w long a = record {
   term = λ env p k. a.term env p
-    ∙ ap₂ apply_all (m.term env p) (levels-put put level 0 xs w env p k
+      ∙ ap₂ apply_all (m.term env p) (levels-put put level 0 xs w env p k
       ∙ ap₂ (λ (n : ℕ) (f : ℕ → Term). map (fill (put_name level (put env))) (levels n f)) long (fun_ext (λ i. ap (around level env) (let q : 0 + i ≡ i = omega arith in q))))
-    ∙ sym (fill-spine (put_name level (put env)) (levels depth (around level env)) (At (term.Var v)) tt);
+      ∙ sym (fill-spine (put_name level (put env)) (levels depth (around level env)) (At (term.Var v)) tt);
   holds = λ f q r. a.holds f (m.holds f (omega arith)) (levels-all put level 0 xs w f q (omega (arith, r, long)));
 }
 
@@ -238,8 +238,8 @@ pub put-var : (g : Graph) (put : (ℕ → Term) → Term) (level t s : ℕ) (v :
     IsPutVar put level v.index (slice_index g.depths v.index) x → Puts g put level t s x
 put-var g put level t s v x sound e free valid deep m = record {
   term = λ env p k. m.term env p k
-    ∙ sym (ap (fill (put_name level (put env))) (nodes_read g t (Var v) (around level env) sound (around-places level env p) e ∙ ap (λ o. variable_reads g v.index o (around level env)) free));
+      ∙ sym (ap (fill (put_name level (put env))) (nodes_read g t (Var v) (around level env) sound (around-places level env p) e ∙ ap (λ o. variable_reads g v.index o (around level env)) free));
   holds = λ f q.
-    let low : slice_index g.depths v.index < suc s = below_from (slice_index g.depths v.index) (suc s) (sym (nodes_valid g t (Var v) s sound e) ∙ valid) in
-    m.holds f (omega (arith, deep, q)) (omega (arith, low, deep, q));
+      let low : slice_index g.depths v.index < suc s = below_from (slice_index g.depths v.index) (suc s) (sym (nodes_valid g t (Var v) s sound e) ∙ valid) in
+      m.holds f (omega (arith, deep, q)) (omega (arith, low, deep, q));
 }

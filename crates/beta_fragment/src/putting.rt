@@ -18,7 +18,9 @@ ghost use Rattle.level_terms.specs.declared.node.Node.TheVariants.{Lam as lam_no
 ghost use Rattle.beta_fragment.specs.declared.renaming.Task.TheVariants.{Visit as visit_task};
 
 use crate::glance::is_plain;
-use crate::renaming::{bare_var, first_task, made_app, made_level, make_app, make_lam, push_visits, Task};
+use crate::renaming::{
+    Task, bare_var, first_task, made_app, made_level, make_app, make_lam, push_visits,
+};
 use level_terms::{Heap, Node, TermId, VarId};
 use std::alloc::{AllocError, Global};
 
@@ -39,7 +41,15 @@ fn put_level(heap: &mut Heap, put: TermId, level: usize, i: usize) -> Result<Ter
 }
 
 /// Does a task that visits a level.
-fn put_at_level(heap: &mut Heap, put: TermId, level: usize, node: TermId, base: usize, i: usize, done: &mut Vec<TermId>) -> Result<(), AllocError>
+fn put_at_level(
+    heap: &mut Heap,
+    put: TermId,
+    level: usize,
+    node: TermId,
+    base: usize,
+    i: usize,
+    done: &mut Vec<TermId>,
+) -> Result<(), AllocError>
     requires here { node_at heap.old.nodes node.index ≡ Some (level_node i) }
     requires put { IsValid heap.old put.index level }
     requires done { AllOlder (length heap.old.nodes) done.old.items }
@@ -54,7 +64,15 @@ fn put_at_level(heap: &mut Heap, put: TermId, level: usize, node: TermId, base: 
 }
 
 /// Does a task that visits a node that the level isn't in: one that is valid at the level.
-fn put_kept(heap: &Heap, put: TermId, level: usize, node: TermId, base: usize, depth: usize, done: &mut Vec<TermId>) -> Result<(), AllocError>
+fn put_kept(
+    heap: &Heap,
+    put: TermId,
+    level: usize,
+    node: TermId,
+    base: usize,
+    depth: usize,
+    done: &mut Vec<TermId>,
+) -> Result<(), AllocError>
     requires low { depth ≤ level }
     requires valid { (s : ℕ) → IsValid heap.now node.index s → IsValid heap.now node.index depth }
     requires there { node.index < length heap.now.nodes }
@@ -68,7 +86,16 @@ fn put_kept(heap: &Heap, put: TermId, level: usize, node: TermId, base: usize, d
 }
 
 /// Does a task that visits an abstraction that was made above the level.
-fn put_at_lam(heap: &Heap, put: TermId, level: usize, node: TermId, base: usize, depth: usize, body: TermId, work: &mut Vec<Task>) -> Result<(), AllocError>
+fn put_at_lam(
+    heap: &Heap,
+    put: TermId,
+    level: usize,
+    node: TermId,
+    base: usize,
+    depth: usize,
+    body: TermId,
+    work: &mut Vec<Task>,
+) -> Result<(), AllocError>
     requires here { node_at heap.now.nodes node.index ≡ Some (lam_node depth body) }
     requires put { IsValid heap.now put.index level }
     requires deep { level < depth }
@@ -81,7 +108,16 @@ fn put_at_lam(heap: &Heap, put: TermId, level: usize, node: TermId, base: usize,
 }
 
 /// Does a task that visits an application whose head is no abstraction.
-fn put_at_app(heap: &Heap, put: TermId, level: usize, node: TermId, base: usize, head: TermId, args: &[TermId], work: &mut Vec<Task>) -> Result<(), AllocError>
+fn put_at_app(
+    heap: &Heap,
+    put: TermId,
+    level: usize,
+    node: TermId,
+    base: usize,
+    head: TermId,
+    args: &[TermId],
+    work: &mut Vec<Task>,
+) -> Result<(), AllocError>
     requires here { node_at heap.now.nodes node.index ≡ Some (app_node head args.now) }
     requires plain { IsPlainNode heap.now head.index }
     ensures steps { OnOk result ((done : List Id) → Steps (putting (read heap.now put.index) level) (record { heap = heap.now; work = work.old.items ++ visit_task node base ∷ []; done = done }) (record { heap = heap.now; work = work.new.items; done = done })) }
@@ -94,7 +130,13 @@ fn put_at_app(heap: &Heap, put: TermId, level: usize, node: TermId, base: usize,
 }
 
 /// The nodes of the levels below a depth, with what is put in the place of one.
-fn put_levels(alloc: Global, heap: &mut Heap, put: TermId, level: usize, depth: usize) -> Result<Vec<TermId>, AllocError>
+fn put_levels(
+    alloc: Global,
+    heap: &mut Heap,
+    put: TermId,
+    level: usize,
+    depth: usize,
+) -> Result<Vec<TermId>, AllocError>
     requires { IsValid heap.old put.index level }
     ensures levels { IfOk result (λ args. ArePutLevels (read heap.old put.index) level 0 (map (value_of heap.new) args.items)) }
     ensures count { IfOk result (λ args. length args.items ≡ depth) }
@@ -113,7 +155,13 @@ fn put_levels(alloc: Global, heap: &mut Heap, put: TermId, level: usize, depth: 
 
 /// A variable that has no value, applied to the levels below its depth, with what is put in the
 /// place of one.
-fn put_var(alloc: Global, heap: &mut Heap, put: TermId, level: usize, v: VarId) -> Result<TermId, AllocError>
+fn put_var(
+    alloc: Global,
+    heap: &mut Heap,
+    put: TermId,
+    level: usize,
+    v: VarId,
+) -> Result<TermId, AllocError>
     requires known { v.index < length heap.old.depths }
     requires free { value_in heap.old.assigned v.index ≡ None }
     requires deep { level < slice_index heap.old.depths v.index }
@@ -238,7 +286,13 @@ fn put_step(
 }
 
 /// The node with another in the place of the level, and the levels above it one lower.
-pub(crate) fn put_node(alloc: Global, heap: &mut Heap, put: TermId, level: usize, t: TermId) -> Result<TermId, AllocError>
+pub(crate) fn put_node(
+    alloc: Global,
+    heap: &mut Heap,
+    put: TermId,
+    level: usize,
+    t: TermId,
+) -> Result<TermId, AllocError>
     requires put { IsValid heap.old put.index level }
     requires valid { IsValid heap.old t.index (level + 1) }
     ensures puts { IfOk result (λ r. Puts heap.old (read heap.old put.index) level t.index (level + 1) (value_of heap.new r)) }

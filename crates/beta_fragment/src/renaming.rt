@@ -222,7 +222,11 @@ fn visit_lam(
 }
 
 /// Puts visits of nodes onto the work list, the first one last.
-pub(crate) fn push_visits(nodes: &[TermId], base: usize, work: &mut Vec<Task>) -> Result<(), AllocError>
+pub(crate) fn push_visits(
+    nodes: &[TermId],
+    base: usize,
+    work: &mut Vec<Task>,
+) -> Result<(), AllocError>
     ensures { OnOk result (work.new.items ≡ work.old.items ++ reverse (visits base nodes.now)) }
 {
     let mut i = nodes.len();
@@ -463,7 +467,11 @@ fn visit(
 }
 
 /// Does a task that makes an abstraction.
-pub(crate) fn make_lam(heap: &mut Heap, depth: usize, done: &mut Vec<TermId>) -> Result<(), AllocError>
+pub(crate) fn make_lam(
+    heap: &mut Heap,
+    depth: usize,
+    done: &mut Vec<TermId>,
+) -> Result<(), AllocError>
     requires some { 0 < length done.old.items }
     requires done { AllOlder (length heap.old.nodes) done.old.items }
     ensures steps { OnOk result ((plan : Plan) (work : List TaskOf) → Steps plan (record { heap = heap.old; work = work ++ lam_task depth ∷ []; done = done.old.items }) (record { heap = heap.new; work = work; done = done.new.items })) }

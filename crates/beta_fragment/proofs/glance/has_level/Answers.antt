@@ -10,7 +10,7 @@ pub is_plain-requires : goal.is_plain-requires
 is_plain-requires c = (parts-there c.args.heap.now c.args.t.index _ c.is_sound.ensures (c.view.ensures ∙ ap Some c.in-App.is)).0
 
 pub is_among-requires : goal.is_among-requires
-is_among-requires c = ?
+is_among-requires c = (parts-there c.args.heap.now c.args.t.index (App c.in-App.head c.as_slice.result.now) c.is_sound.ensures (c.view.ensures ∙ ap Some c.in-App.is ∙ ap (λ (ts : List TermId). Some (App c.in-App.head ts)) (sym c.as_slice.ensures))).1
 
-pub returns-else-is_plain : goal.returns-else-is_plain
-returns-else-is_plain c = ?
+pub returns-else-not-is_plain : goal.returns-else-not-is_plain
+returns-else-not-is_plain c = λ q. app-has c.args.heap.now c.args.t.index c.args.level c.in-App.head c.as_slice.result.now c.is_sound.ensures (c.view.ensures ∙ ap Some c.in-App.is ∙ ap (λ (ts : List TermId). Some (App c.in-App.head ts)) (sym c.as_slice.ensures)) (c.is_plain.ensures c.if-not-is_plain.false) (c.is_among.ensures q)

@@ -17,7 +17,7 @@ returns-clause-steps c = λ work.
     subst (λ (ds : List TermId). Steps (putting (read c.args.heap.now c.args.put.index) c.args.level) (record { heap = c.args.heap.now; work = work ++ Visit c.args.node c.args.base ∷ []; done = c.args.done.now.items }) (record { heap = c.put_level.new.heap; work = work; done = ds }))
     (sym c.in_ok-push.ensures.items)
     (steps-done (putting (read c.args.heap.now c.args.put.index) c.args.level) c.args.heap.now c.put_level.new.heap work c.args.done.now.items c.args.node c.in_ok-r.r c.args.base c.is_sound.ensures c.in_ok-r.ensures.grows c.requires.done
-      (λ g s sg gr v low few. put-level g (read c.args.heap.now c.args.put.index) c.args.level c.args.node.index c.args.i s (value_of c.put_level.new.heap c.in_ok-r.r) sg (node-before g c.args.heap.now gr c.args.node.index _ (valid-below g c.args.node.index s v) c.requires.here) v low c.in_ok-r.ensures.level))
+    (λ g s sg gr v low few. put-level g (read c.args.heap.now c.args.put.index) c.args.level c.args.node.index c.args.i s (value_of c.put_level.new.heap c.in_ok-r.r) sg (node-before g c.args.heap.now gr c.args.node.index _ (valid-below g c.args.node.index s v) c.requires.here) v low c.in_ok-r.ensures.level))
 
 pub returns-clause-done : goal.returns-clause-done
 returns-clause-done c =

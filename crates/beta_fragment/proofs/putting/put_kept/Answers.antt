@@ -19,13 +19,13 @@ returns-clause-steps c = λ work.
     subst (λ (ds : List TermId). Steps (putting (read c.args.heap.now c.args.put.index) c.args.level) (record { heap = c.args.heap.now; work = work ++ Visit c.args.node c.args.base ∷ []; done = c.args.done.now.items }) (record { heap = c.args.heap.now; work = work; done = ds }))
     (sym c.in_ok-push.ensures.items)
     (steps-done (putting (read c.args.heap.now c.args.put.index) c.args.level) c.args.heap.now c.args.heap.now work c.args.done.now.items c.args.node c.args.node c.args.base c.is_sound.ensures (grows-refl c.args.heap.now []) c.requires.done
-      (λ g s sg gr v low few.
-        let below = valid-below g c.args.node.index s v in
-        let same = value-kept g c.args.heap.now sg gr c.args.node below in
-        let later = growth_keeps_valid g c.args.heap.now [] [] c.args.node.index s sg gr below v in
-        let kept = valid_deeper c.args.heap.now c.args.node.index c.args.depth c.args.level (c.requires.valid s later) c.requires.low in
-        put-kept g (read c.args.heap.now c.args.put.index) c.args.level c.args.node.index s (value_of c.args.heap.now c.args.node)
-          (ap (λ (x : Value). x.holds c.args.level) (sym same) ∙ kept) low (ap (λ (x : Value). x.term) same) (ap (λ (x : Value). x.holds) same)))
+    (λ g s sg gr v low few.
+    let below = valid-below g c.args.node.index s v in
+    let same = value-kept g c.args.heap.now sg gr c.args.node below in
+    let later = growth_keeps_valid g c.args.heap.now [] [] c.args.node.index s sg gr below v in
+    let kept = valid_deeper c.args.heap.now c.args.node.index c.args.depth c.args.level (c.requires.valid s later) c.requires.low in
+    put-kept g (read c.args.heap.now c.args.put.index) c.args.level c.args.node.index s (value_of c.args.heap.now c.args.node)
+    (ap (λ (x : Value). x.holds c.args.level) (sym same) ∙ kept) low (ap (λ (x : Value). x.term) same) (ap (λ (x : Value). x.holds) same)))
 
 pub returns-clause-done : goal.returns-clause-done
 returns-clause-done c =

@@ -35,18 +35,18 @@ loop-i-preserved c =
     let here : 0 + length (map (value_of c.put_level.new.heap) c.loop-i.args.items) ≡ c.loop-i.i = (let long = length-map c.loop-i.args.items (value_of c.put_level.new.heap) in let count = c.loop-i.invariant.count in omega (arith, long, count)) in
     record {
       levels =
-        subst (λ (ts : List TermId). ArePutLevels (read c.args.heap.now c.args.put.index) c.args.level 0 (map (value_of c.put_level.new.heap) ts)) (sym c.in_ok-push.ensures.items)
-        (subst (λ (xs : List Value). ArePutLevels (read c.args.heap.now c.args.put.index) c.args.level 0 xs) (sym (map-append (value_of c.put_level.new.heap) c.loop-i.args.items (c.in_ok-r.r ∷ [])))
+          subst (λ (ts : List TermId). ArePutLevels (read c.args.heap.now c.args.put.index) c.args.level 0 (map (value_of c.put_level.new.heap) ts)) (sym c.in_ok-push.ensures.items)
+          (subst (λ (xs : List Value). ArePutLevels (read c.args.heap.now c.args.put.index) c.args.level 0 xs) (sym (map-append (value_of c.put_level.new.heap) c.loop-i.args.items (c.in_ok-r.r ∷ [])))
           (put-levels-more (read c.args.heap.now c.args.put.index) c.args.level 0 (map (value_of c.put_level.new.heap) c.loop-i.args.items) (value_of c.put_level.new.heap c.in_ok-r.r)
-            (subst (λ (xs : List Value). ArePutLevels (read c.args.heap.now c.args.put.index) c.args.level 0 xs) (sym kept) c.loop-i.invariant.levels)
-            (subst (λ l. IsPutLevel (read c.args.heap.now c.args.put.index) c.args.level l (value_of c.put_level.new.heap c.in_ok-r.r)) (sym here)
-              (subst (λ f. IsPutLevel f c.args.level c.loop-i.i (value_of c.put_level.new.heap c.in_ok-r.r)) same c.in_ok-r.ensures.level))));
+          (subst (λ (xs : List Value). ArePutLevels (read c.args.heap.now c.args.put.index) c.args.level 0 xs) (sym kept) c.loop-i.invariant.levels)
+          (subst (λ l. IsPutLevel (read c.args.heap.now c.args.put.index) c.args.level l (value_of c.put_level.new.heap c.in_ok-r.r)) (sym here)
+          (subst (λ f. IsPutLevel f c.args.level c.loop-i.i (value_of c.put_level.new.heap c.in_ok-r.r)) same c.in_ok-r.ensures.level))));
       count =
-        let long = ap length c.in_ok-push.ensures.items ∙ length-append c.loop-i.args.items (c.in_ok-r.r ∷ []) in
-        let count = c.loop-i.invariant.count in
-        omega (arith, long, count);
+          let long = ap length c.in_ok-push.ensures.items ∙ length-append c.loop-i.args.items (c.in_ok-r.r ∷ []) in
+          let count = c.loop-i.invariant.count in
+          omega (arith, long, count);
       there =
-        subst (AllOlder (length c.put_level.new.heap.nodes)) (sym c.in_ok-push.ensures.items)
-        (older-append (length c.put_level.new.heap.nodes) c.loop-i.args.items (c.in_ok-r.r ∷ []) (older-grown c.loop-i.heap c.put_level.new.heap c.put_level.ensures.grows c.loop-i.args.items c.loop-i.invariant.there) (c.in_ok-r.ensures.there, tt));
+          subst (AllOlder (length c.put_level.new.heap.nodes)) (sym c.in_ok-push.ensures.items)
+          (older-append (length c.put_level.new.heap.nodes) c.loop-i.args.items (c.in_ok-r.r ∷ []) (older-grown c.loop-i.heap c.put_level.new.heap c.put_level.ensures.grows c.loop-i.args.items c.loop-i.invariant.there) (c.in_ok-r.ensures.there, tt));
       grows = grows-trans c.args.heap.now c.loop-i.heap c.put_level.new.heap [] [] [] c.loop-i.invariant.grows c.put_level.ensures.grows;
     }

@@ -20,8 +20,8 @@ returns-in_err-work-clause-grows c = grows-refl c.args.heap.now []
 pub loop-task-init : goal.loop-task-init
 loop-task-init c = record {
   leads =
-    subst (λ (ws : List Task). IsLeading c.args.heap.now (putting (read c.args.heap.now c.args.put.index) c.args.level) c.args.t.index 0 (c.args.level + 1) (record { heap = c.args.heap.now; work = ws; done = c.new-done.result.items })) (sym c.in_ok-work.ensures)
-    (subst (λ (ds : List TermId). IsLeading c.args.heap.now (putting (read c.args.heap.now c.args.put.index) c.args.level) c.args.t.index 0 (c.args.level + 1) (record { heap = c.args.heap.now; work = Visit c.args.t 0 ∷ []; done = ds })) (sym c.new-done.ensures.items)
+      subst (λ (ws : List Task). IsLeading c.args.heap.now (putting (read c.args.heap.now c.args.put.index) c.args.level) c.args.t.index 0 (c.args.level + 1) (record { heap = c.args.heap.now; work = ws; done = c.new-done.result.items })) (sym c.in_ok-work.ensures)
+      (subst (λ (ds : List TermId). IsLeading c.args.heap.now (putting (read c.args.heap.now c.args.put.index) c.args.level) c.args.t.index 0 (c.args.level + 1) (record { heap = c.args.heap.now; work = Visit c.args.t 0 ∷ []; done = ds })) (sym c.new-done.ensures.items)
       (c.args.level + 1, c.requires.valid, omega arith, tt, λ x m. m));
   there = subst (AllOlder (length c.args.heap.now.nodes)) (sym c.new-done.ensures.items) tt;
   grows = grows-refl c.args.heap.now [];
@@ -36,7 +36,7 @@ put_step-requires-clause-ready c =
     let same = grown-reads c.args.heap.now c.loop-task.heap c.is_sound.ensures c.loop-task.invariant.grows c.args.put.index (valid-below c.args.heap.now c.args.put.index c.args.level c.requires.put) in
     subst (λ f. IsReady (putting f c.args.level) (length c.loop-task.heap.nodes) (length c.loop-task.done.items) c.in-Some.task) (sym same)
     (leads-ready c.args.heap.now c.loop-task.heap (putting (read c.args.heap.now c.args.put.index) c.args.level) c.args.t.index 0 (c.args.level + 1) c.in-Some.task (reverse c.pop.new.self.items) c.loop-task.done.items c.loop-task.invariant.grows
-      (subst (λ (ks : List Task). Leads c.args.heap.now (putting (read c.args.heap.now c.args.put.index) c.args.level) c.args.t.index 0 (c.args.level + 1) ks (map (value_of c.loop-task.heap) c.loop-task.done.items)) (newest-task c.pop.new.self.items c.in-Some.task) leads))
+    (subst (λ (ks : List Task). Leads c.args.heap.now (putting (read c.args.heap.now c.args.put.index) c.args.level) c.args.t.index 0 (c.args.level + 1) ks (map (value_of c.loop-task.heap) c.loop-task.done.items)) (newest-task c.pop.new.self.items c.in-Some.task) leads))
 
 pub put_step-requires-clause-done : goal.put_step-requires-clause-done
 put_step-requires-clause-done c = c.loop-task.invariant.there
@@ -68,13 +68,13 @@ unreachable-requires c =
     let no_work = empty-list c.loop-task.work.items (omega (arith, c.loop-task.work.ok, c.in_default.ensures.cases.0)) in
     let none = empty-list c.loop-task.done.items (omega (arith, c.loop-task.done.ok, c.in-None.ensures.cases.0)) in
     some-done c.args.heap.now c.loop-task.heap (putting (read c.args.heap.now c.args.put.index) c.args.level) c.args.t.index 0 (c.args.level + 1) c.loop-task.done.items
-      (subst (λ (ws : List Task). Leads c.args.heap.now (putting (read c.args.heap.now c.args.put.index) c.args.level) c.args.t.index 0 (c.args.level + 1) (reverse ws) (map (value_of c.loop-task.heap) c.loop-task.done.items)) no_work c.loop-task.invariant.leads) none
+    (subst (λ (ws : List Task). Leads c.args.heap.now (putting (read c.args.heap.now c.args.put.index) c.args.level) c.args.t.index 0 (c.args.level + 1) (reverse ws) (map (value_of c.loop-task.heap) c.loop-task.done.items)) no_work c.loop-task.invariant.leads) none
 
 pub returns-clause-puts : goal.returns-clause-puts
 returns-clause-puts c =
     let no_work = empty-list c.loop-task.work.items (omega (arith, c.loop-task.work.ok, c.in_default.ensures.cases.0)) in
     last-leads c.args.heap.now c.loop-task.heap (putting (read c.args.heap.now c.args.put.index) c.args.level) c.args.t.index 0 (c.args.level + 1) c.loop-task.done.items c.pop-2.new.self.items c.in-Some-pop.r c.in-Some-pop.ensures.items
-      (subst (λ (ws : List Task). Leads c.args.heap.now (putting (read c.args.heap.now c.args.put.index) c.args.level) c.args.t.index 0 (c.args.level + 1) (reverse ws) (map (value_of c.loop-task.heap) c.loop-task.done.items)) no_work c.loop-task.invariant.leads)
+    (subst (λ (ws : List Task). Leads c.args.heap.now (putting (read c.args.heap.now c.args.put.index) c.args.level) c.args.t.index 0 (c.args.level + 1) (reverse ws) (map (value_of c.loop-task.heap) c.loop-task.done.items)) no_work c.loop-task.invariant.leads)
 
 pub returns-clause-there : goal.returns-clause-there
 returns-clause-there c = older-last (length c.loop-task.heap.nodes) c.pop-2.new.self.items c.in-Some-pop.r (subst (AllOlder (length c.loop-task.heap.nodes)) c.in-Some-pop.ensures.items c.loop-task.invariant.there)
