@@ -12,8 +12,6 @@ mod head;
 mod opening;
 mod putting;
 mod renaming;
-#[cfg(test)]
-mod tests;
 
 pub use answer::{Names, RigidHead, UnifyStop, Whnf};
 pub use body::enter;
