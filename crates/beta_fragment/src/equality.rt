@@ -9,7 +9,7 @@ ghost use Rattle.beta_fragment.specs.Names.{names};
 use level_terms::{Heap, TermId};
 use std::alloc::{AllocError, Global};
 
-/// Whether both terms have equal readings. Answers `AllocError` on want of memory alone.
+/// Whether both terms have equal readings. Not done yet: it answers `AllocError`.
 pub fn same_term(
     alloc: Global,
     heap: &mut Heap,

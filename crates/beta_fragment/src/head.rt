@@ -28,7 +28,8 @@ use level_terms::{Heap, Node, TermId, TermIds, VarId};
 use std::alloc::{AllocError, Global};
 
 /// What the term is: an abstraction exactly where it reads as one, and else its head with all its
-/// arguments. Answers `AllocError` on want of memory alone.
+/// arguments. Answers `AllocError` on want of memory, and still where a look can't tell whether an
+/// abstraction is contracted or an argument is ready.
 pub fn whnf(alloc: Global, heap: &mut Heap, t: TermId, depth: usize) -> Result<Whnf, AllocError>
     requires { IsValid heap.old t.index depth }
     ensures form { IfOk result (λ w. IsHeadForm heap.new depth (read heap.old t.index names) w) }

@@ -18,7 +18,8 @@ use level_terms::{Heap, Node, TermId};
 use std::alloc::{AllocError, Global};
 
 /// The abstraction's body with the argument for its bound name. Answers `AllocError` on want of
-/// memory alone.
+/// memory, and still where an argument that isn't ready goes into a body with an application that
+/// may reduce.
 pub fn contract(
     alloc: Global,
     heap: &mut Heap,
