@@ -1,0 +1,5 @@
+pub mod WrittenLemmas
+pub mod OpenedLemmas
+pub mod NameLemmas
+pub mod NumberLemmas
+pub mod FormLemmas

@@ -1,0 +1,4 @@
+pub mod Written
+pub mod Opened
+pub mod Heads
+pub mod Pieces

@@ -1,0 +1,14 @@
+//! Printed forms of terms and of sequents.
+//!
+//! A term is printed from the left by a list of pieces, so that its depth takes no stack. A node's
+//! head is looked at once, and each byte is written once.
+#![tactic(auto)]
+
+mod head;
+mod namer;
+mod piece;
+
+
+
+pub use namer::Namer;
+
