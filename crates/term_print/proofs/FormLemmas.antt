@@ -8,17 +8,7 @@ use Rattle.ref_terms.specs.unification.Spine.{apply_all}
 use Rattle.ref_terms.specs.texts.Text.{Part, Bytes, Form, top, inner, front, left, symbol, infix_of, infix_word, bracketed, space}
 use Rattle.ref_terms.specs.search.Reserved.{word_of}
 use Rattle.term_print.specs.Opened.{head_part, application_form, applied_parts, parts}
-use Rattle.term_print.specs.Pieces.{is_bare, argument_parts}
-
--- a constant that is printed between two arguments
-abbrev pub infix_head : Head → Bool
-infix_head (Con c) = infix_word (word_of c)
-infix_head _ = false
-
--- the head isn't printed between these arguments
-abbrev pub IsPrefixed : Head → List Term → Type 0
-IsPrefixed h (a ∷ b ∷ []) = infix_head h ≡ false
-IsPrefixed h _ = Unit {0}
+use Rattle.term_print.specs.Pieces.{infix_head, IsPrefixed, is_bare, argument_parts}
 
 module _ (table : List (List ℕ)) (names indices : ℕ → Part) where
   -- the front of an application

@@ -3,3 +3,5 @@ pub mod OpenedLemmas
 pub mod NameLemmas
 pub mod NumberLemmas
 pub mod FormLemmas
+pub mod StepLemmas
+pub mod LookLemmas

@@ -1,7 +1,11 @@
 -- Writing a text part by part.
-use Rattle.std.proofs.Common.{◌≡◌, ℕ, List, [], ◌∷◌, ◌++◌, refl, sym, ap, ◌∙◌, append_assoc, append-nil, decimal}
+use Rattle.std.proofs.Common.{◌≡◌, ℕ, List, [], ◌∷◌, ◌++◌, refl, sym, ap, ◌∙◌, append_assoc, append-nil, decimal, take, drop}
+use Rattle.std.specs.Prelude.{flat_map, OnErr, Ok, Err}
+use Rattle.std.specs.declared.result.Result.{Result}
+use Rattle.std.proofs.lemmas.Grind.{flat_map-append}
+use Rattle.std.proofs.lemmas.List.{take-append-drop}
 use Rattle.lam_io.specs.Writes.{IsFront}
-use Rattle.ref_terms.specs.texts.Text.{Part, Bytes, Free}
+use Rattle.ref_terms.specs.texts.Text.{Part, Bytes, Free, escaped}
 use Rattle.ref_terms.specs.texts.Numbering.{place_of, seen_also, numbered}
 use Rattle.term_print.specs.Written.{seen_after, GainsFront, Page, Prints, Stops}
 
@@ -81,3 +85,15 @@ gains-later cs bs old mid new e s =
 
 pub gains-front : (cs bs old new : List ℕ) → GainsFront cs old new → GainsFront (cs ++ bs) old new
 gains-front cs bs old new s = (s.0, s.1, (s.2.0 ++ bs, sym (append_assoc s.0 s.2.0 bs) ∙ ap (λ u. u ++ bs) s.2.1))
+
+-- a front of the bytes of a string
+flat-drop : (bs : List ℕ) (i : ℕ) → flat_map escaped (take i bs) ++ flat_map escaped (drop i bs) ≡ flat_map escaped bs
+flat-drop bs i = sym (flat_map-append escaped (take i bs) (drop i bs)) ∙ ap (flat_map escaped) (take-append-drop i bs)
+
+pub gains-map : (bs : List ℕ) (i : ℕ) (old mid new : List ℕ) → mid ≡ old ++ flat_map escaped (take i bs) → new ≡ mid → GainsFront (flat_map escaped bs) old new
+gains-map bs i old mid new e f = (flat_map escaped (take i bs), f ∙ e, (flat_map escaped (drop i bs), flat-drop bs i))
+
+-- what holds, holds after an error
+pub on-err : {T E : Type 0} {P : Type 0} → (r : Result T E) → P → OnErr r P
+on-err (Ok x) p = tt
+on-err (Err e) p = p

@@ -1,5 +1,5 @@
 -- What is still to be printed.
-use Rattle.std.specs.Prelude.{ℕ, Bool, true, false, ◌+◌, ◌*◌, ◌-◌, ◌<◌, ◌≤◌, List, [], ◌∷◌, ◌++◌, map, length}
+use Rattle.std.specs.Prelude.{◌≡◌, ℕ, Bool, true, false, ◌+◌, ◌*◌, ◌-◌, ◌<◌, ◌≤◌, List, [], ◌∷◌, ◌++◌, map, length}
 use Rattle.level_terms.specs.declared.node.TermId.{TermId}
 use Rattle.level_terms.specs.Graph.{Graph}
 use Rattle.level_terms.specs.Reading.{read}
@@ -7,6 +7,7 @@ use Rattle.level_terms.specs.Valid.{IsValid}
 use Rattle.ref_terms.specs.terms.Term as term
 use Rattle.ref_terms.specs.terms.Term.{Term}
 use Rattle.ref_terms.specs.unification.Spine.{apply_all}
+use Rattle.ref_terms.specs.search.Reserved.{word_of}
 use Rattle.ref_terms.specs.texts.Text as text
 use Rattle.ref_terms.specs.texts.Text.{Part, Bytes, Form, symbol, space}
 use Rattle.beta_fragment.specs.Names.{names}
@@ -14,9 +15,30 @@ use Rattle.beta_fragment.specs.HeadForm.{rigid_head, all_read}
 use Rattle.beta_fragment.specs.declared.answer.Whnf.{Whnf}
 use Rattle.beta_fragment.specs.declared.answer.Whnf.TheVariants.{Lam, Rigid, Flex, Redex}
 use Rattle.term_print.specs.Opened.{parts, opened_parts}
-use Rattle.term_print.specs.Written.{Page, Prints}
+use Rattle.term_print.specs.Written.{Page, Prints, Stops}
 use Rattle.term_print.specs.declared.piece.Piece.{Piece}
 use Rattle.term_print.specs.declared.piece.Piece.TheVariants.{Close, Infix, Top, Inner, Argument}
+
+-- a constant that is printed between two arguments
+abbrev pub infix_head : term.Head → Bool
+infix_head (term.Con c) = text.infix_word (word_of c)
+infix_head _ = false
+
+-- the head isn't printed between these arguments
+abbrev pub IsPrefixed : term.Head → List Term → Type 0
+IsPrefixed h (a ∷ b ∷ []) = infix_head h ≡ false
+IsPrefixed h _ = Unit {0}
+
+-- a head without arguments
+abbrev pub is_bare : Term → Bool
+is_bare (term.Lam b) = false
+is_bare (term.At h) = true
+is_bare (term.App f a) = false
+
+-- the text of arguments
+abbrev pub argument_parts : List (List ℕ) → (names indices : ℕ → Part) → (depth : ℕ) → List Term → List Part
+argument_parts table names indices depth [] = []
+argument_parts table names indices depth (a ∷ ts) = space ∷ parts table names indices a text.inner depth ++ argument_parts table names indices depth ts
 
 -- the text of a node at a depth, where bound names are the levels from the base on
 abbrev pub node_parts : List (List ℕ) → (base : ℕ) → Graph → TermId → (depth : ℕ) → Form → List Part
@@ -81,3 +103,17 @@ pub record Leaves (table : List (List ℕ)) (base : ℕ) (old : Page) (ps : List
   pub prints : Prints old ps new (work_parts table base g work)
   pub pieces : ArePieces base g work
   pub falls : work_size base g work < bound
+
+-- a term's text in a form is printed so, before pieces
+abbrev pub LeavesTerm : (table : List (List ℕ)) (base : ℕ) → Form → Graph → Term → (depth : ℕ) → (work : List Piece) → (old : Page) → Graph → (new : Page) → List Piece → Type 0
+LeavesTerm table base form g u depth work old h new left = Leaves table base old
+    (opened_parts table base u form (depth - base) ++ work_parts table base g work)
+    (2 * length (opened_parts [] base u form (depth - base)) + work_size base g work) h new left
+
+-- printing it stopped
+abbrev pub StopsTerm : (table : List (List ℕ)) (base : ℕ) → Form → Graph → Term → (depth : ℕ) → (work : List Piece) → (old : Page) → (text : List ℕ) → Type 0
+StopsTerm table base form g u depth work old text = Stops old (opened_parts table base u form (depth - base) ++ work_parts table base g work) text
+
+-- what was written, with what was seen
+abbrev pub page : (text seen : List ℕ) → Page
+page text seen = record { text = text; seen = seen }

@@ -7,8 +7,11 @@
 mod head;
 mod namer;
 mod piece;
+mod print;
+mod step;
 
 
 
 pub use namer::Namer;
+pub use print::print_term;
 
