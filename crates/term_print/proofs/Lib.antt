@@ -5,3 +5,4 @@ pub mod NumberLemmas
 pub mod FormLemmas
 pub mod StepLemmas
 pub mod LookLemmas
+pub mod PrintLemmas

@@ -1,5 +1,6 @@
 -- What is seen of a term, and bodies of abstractions.
-use Rattle.std.proofs.Common.{◌≡◌, ℕ, zero, suc, ◌+◌, ◌-◌, ◌<◌, ◌≤◌, ◌++◌, Bool, true, false, cond, nat_eq, nat_lt, List, [], ◌∷◌, map, length, drop, get_or, reverse, Option, Some, None, refl, sym, ap, ap₂, ◌∙◌, subst, arith, append_assoc, length-append, ne_eqb, eqb-true, eq-eqb, ltb-true, lt-ltb}
+use Rattle.std.proofs.Common.{◌≡◌, ℕ, zero, suc, ◌+◌, ◌-◌, ◌<◌, ◌≤◌, ◌++◌, Bool, true, false, cond, nat_eq, nat_lt, List, [], ◌∷◌, map, length, drop, get_or, reverse, Option, Some, None, refl, sym, ap, ap₂, ◌∙◌, subst, arith, append_assoc, length-append, ne_eqb, eqb-true, eq-eqb, ltb-true}
+use Rattle.std.proofs.lemmas.Bool.{lt-ltb}
 use Rattle.std.proofs.lemmas.List.{reverse-append}
 use Rattle.level_terms.specs.declared.node.Node.{Node}
 use Rattle.level_terms.specs.declared.node.Node.TheVariants.{Lam, Level, Con, Int, Str, App, Var}

@@ -1,5 +1,6 @@
 -- What one step leaves.
-use Rattle.std.proofs.Common.{◌≡◌, ℕ, zero, suc, ◌+◌, ◌-◌, ◌*◌, ◌<◌, ◌≤◌, Bool, true, false, cond, List, [], ◌∷◌, ◌++◌, map, length, Option, Some, None, refl, sym, ap, ap₂, ◌∙◌, subst, arith, append_assoc, append-nil, length-append, decimal}
+use Rattle.std.proofs.Common.{◌≡◌, ℕ, zero, suc, ◌+◌, ◌-◌, ◌*◌, ◌<◌, ◌≤◌, Bool, true, false, cond, List, [], ◌∷◌, ◌++◌, map, length, Option, Some, None, refl, sym, ap, ap₂, ◌∙◌, subst, arith, append_assoc, append-nil, length-append, decimal, reverse, get_or}
+use Rattle.std.proofs.lemmas.List.{reverse-append, reverse-reverse, length-map}
 use Rattle.level_terms.specs.declared.node.TermId.{TermId}
 use Rattle.level_terms.specs.declared.node.VarId.{VarId}
 use Rattle.level_terms.specs.Graph.{Graph}
@@ -17,19 +18,19 @@ use Rattle.ref_terms.specs.unification.Spine.{apply_all}
 use Rattle.ref_terms.specs.search.Reserved.{word_of}
 use Rattle.ref_terms.specs.texts.Text as text
 use Rattle.ref_terms.specs.texts.Text.{Part, Bytes, Free, Form, symbol, head_text, infix_word, space, bracketed}
-use Rattle.ref_terms.specs.texts.Numbering.{place_of, seen_also}
+use Rattle.ref_terms.specs.texts.Numbering.{place_of, seen_also, numbered}
 use Rattle.beta_fragment.specs.Names.{names}
 use Rattle.beta_fragment.specs.HeadForm.{rigid_head, all_read, AllValidAt, IsAbstraction, ReadsAsLam, FirstUnready}
 use Rattle.beta_fragment.specs.declared.answer.RigidHead.{RigidHead}
 use Rattle.beta_fragment.specs.declared.answer.RigidHead.TheVariants.{Con, Int, Str, Level}
 use Rattle.beta_fragment.proofs.ReadLemmas.{valid-below, grown-reads}
 use Rattle.term_print.specs.Opened.{head_part, under_binder, parts, name_bytes, opened_parts}
-use Rattle.term_print.specs.Heads.{rigid_bytes, binder_bytes}
-use Rattle.term_print.specs.Written.{Page, Prints, Stops}
+use Rattle.term_print.specs.Heads.{rigid_bytes, binder_bytes, infix_bytes}
+use Rattle.term_print.specs.Written.{Page, Prints, Stops, GainsFront}
 use Rattle.term_print.specs.Pieces.{infix_head, IsPrefixed, is_bare, argument_parts, node_parts, piece_parts, work_parts, IsNode, IsPiece, ArePieces, piece_size, work_size, argument_pieces, Leaves, LeavesTerm, StopsTerm, page}
 use Rattle.term_print.specs.declared.piece.Piece.{Piece}
 use Rattle.term_print.specs.declared.piece.Piece.TheVariants.{Close, Infix, Top, Inner, Argument}
-use Rattle.term_print.proofs.WrittenLemmas.{prints-same, prints-trans, prints-bytes, prints-free, prints-none, stops-now, stops-later, stops-same}
+use Rattle.term_print.proofs.WrittenLemmas.{prints-same, prints-trans, prints-bytes, prints-free, prints-none, stops-now, stops-later, stops-same, stops-bytes}
 use Rattle.term_print.proofs.OpenedLemmas.{parts-opened}
 use Rattle.term_print.proofs.FormLemmas.{head-top, infix-top, redex-top, inner-form}
 
@@ -307,3 +308,102 @@ pub looked-stops : (table : List (List ℕ)) (base : ℕ) (k : Form) (g m : Grap
 looked-stops table base k g m s gr u v e depth rest there old new w =
     stops-same old (opened_parts table base v k (depth - base) ++ work_parts table base m rest) _ new
     (ap₂ (λ (x : Term) (ps : List Part). opened_parts table base x k (depth - base) ++ ps) e (sym (work-grown g m s gr table base rest there))) w
+
+-- pages and work lists that are equal
+pub leaves-same : (table : List (List ℕ)) (base : ℕ) (old : Page) (ps : List Part) (bound : ℕ) (g : Graph) (new new' : Page) (work work' : List Piece) → new' ≡ new → work' ≡ work → Leaves table base old ps bound g new work → Leaves table base old ps bound g new' work'
+leaves-same table base old ps bound g new new' work work' e f w =
+    subst (λ (x : Page). Leaves table base old ps bound g x work') (sym e) (subst (λ (x : List Piece). Leaves table base old ps bound g new x) (sym f) w)
+
+-- the last piece of a work list is the next one
+pub pushed-one : (old new : List Piece) (p : Piece) → new ≡ old ++ p ∷ [] → reverse new ≡ p ∷ reverse old
+pushed-one old new p e = ap reverse e ∙ reverse-append old (p ∷ [])
+
+pub pushed-all : (old new : List Piece) (ps : List Piece) → new ≡ old ++ reverse ps → reverse new ≡ ps ++ reverse old
+pushed-all old new ps e = ap reverse e ∙ reverse-append old (reverse ps) ∙ ap (λ (qs : List Piece). qs ++ reverse old) (reverse-reverse ps)
+
+pub pushed-three : (old new : List Piece) (a b c : Piece) → new ≡ old ++ a ∷ b ∷ c ∷ [] → reverse new ≡ c ∷ b ∷ a ∷ reverse old
+pushed-three old new a b c e = ap reverse e ∙ reverse-append old (a ∷ b ∷ c ∷ [])
+
+pub lam-printed : (table : List (List ℕ)) (base : ℕ) (g h : Graph) → IsSound g → Grows g h [] [] → (depth : ℕ) (work new : List Piece) → base ≤ depth → ArePieces base g (reverse work) → (u : Term) → IsAbstraction u → (node : TermId) (inside : ℕ) → inside ≡ depth + 1
+    → IsValid h node.index (depth + 1) → ((b : Term) → u ≡ term.Lam b → read h node.index names ≡ sub (first (names depth)) b) → new ≡ work ++ Top node inside ∷ [] → (t t' seen : List ℕ) → t' ≡ t ++ binder_bytes (depth - base)
+    → LeavesTerm table base text.top g u depth (reverse work) (page t seen) h (page t' seen) (reverse new)
+lam-printed table base g h s gr depth work new deep there u w node inside i v r e t t' seen q =
+    let is = abstraction-is u w in
+    leaves-same table base (page t seen) _ _ h (page (t ++ binder_bytes (depth - base)) seen) (page t' seen) (Top node (depth + 1) ∷ reverse work) (reverse new)
+    (ap (λ (x : List ℕ). page x seen) q)
+    (pushed-one work new (Top node inside) e ∙ ap (λ (d : ℕ). Top node d ∷ reverse work) i)
+    (lam-leaves table base g h s gr depth (reverse work) deep there u is.0 is.1 node v (r is.0 is.1) t seen)
+
+pub rigid-printed : (table : List (List ℕ)) (base : ℕ) (g : Graph) (depth : ℕ) (work new : List Piece) → base ≤ depth → ArePieces base g (reverse work) → (k : RigidHead) (ts : List TermId) → ((us : List Term) → length us ≡ length ts → IsPrefixed (rigid_head k) us) → AllValidAt g ts depth
+    → new ≡ work ++ reverse (argument_pieces depth ts) → (t t' seen : List ℕ) → t' ≡ t ++ rigid_bytes table base k
+    → LeavesTerm table base text.top g (apply_all (At (rigid_head k)) (all_read g ts)) depth (reverse work) (page t seen) g (page t' seen) (reverse new)
+rigid-printed table base g depth work new deep there k ts w v e t t' seen q =
+    leaves-same table base (page t seen) _ _ g (page (t ++ rigid_bytes table base k) seen) (page t' seen) (argument_pieces depth ts ++ reverse work) (reverse new)
+    (ap (λ (x : List ℕ). page x seen) q) (pushed-all work new (argument_pieces depth ts) e)
+    (rigid-leaves table base g depth (reverse work) deep there k ts t seen (w (all_read g ts) (length-map ts (λ (x : TermId). read g x.index names))) v)
+
+pub rigid-stops : (table : List (List ℕ)) (base : ℕ) (g : Graph) (depth : ℕ) (rest : List Piece) (k : RigidHead) (ts : List TermId) → ((us : List Term) → length us ≡ length ts → IsPrefixed (rigid_head k) us) → (t new seen : List ℕ) → GainsFront (rigid_bytes table base k) t new
+    → StopsTerm table base text.top g (apply_all (At (rigid_head k)) (all_read g ts)) depth rest (page t seen) new
+rigid-stops table base g depth rest k ts w t new seen s =
+    stops-same (page t seen) (Bytes (rigid_bytes table base k) ∷ (argument_parts table (name_parts base) (index_parts table) (depth - base) (all_read g ts) ++ work_parts table base g rest)) _ new
+    (ap (λ (ps : List Part). ps ++ work_parts table base g rest) (head-top table (name_parts base) (index_parts table) (rigid_head k) (all_read g ts) (depth - base) (w (all_read g ts) (length-map ts (λ (x : TermId). read g x.index names))))
+    ∙ ap (λ (q : Part). q ∷ (argument_parts table (name_parts base) (index_parts table) (depth - base) (all_read g ts) ++ work_parts table base g rest)) (head-is table base k))
+    (stops-bytes (page t seen) (rigid_bytes table base k) (argument_parts table (name_parts base) (index_parts table) (depth - base) (all_read g ts) ++ work_parts table base g rest) new s)
+
+pub flex-printed : (table : List (List ℕ)) (base : ℕ) (g : Graph) (depth : ℕ) (work new : List Piece) → base ≤ depth → ArePieces base g (reverse work) → (v : ℕ) (ts : List TermId) → AllValidAt g ts depth
+    → new ≡ work ++ reverse (argument_pieces depth ts) → (t t' seen seen' : List ℕ) → t' ≡ t ++ 63 ∷ decimal (place_of v seen) → seen' ≡ seen_also v seen
+    → LeavesTerm table base text.top g (apply_all (At (term.Var v)) (all_read g ts)) depth (reverse work) (page t seen) g (page t' seen') (reverse new)
+flex-printed table base g depth work new deep there v ts w e t t' seen seen' q r =
+    leaves-same table base (page t seen) _ _ g (page (t ++ 63 ∷ decimal (place_of v seen)) (seen_also v seen)) (page t' seen') (argument_pieces depth ts ++ reverse work) (reverse new)
+    (ap₂ page q r) (pushed-all work new (argument_pieces depth ts) e)
+    (flex-leaves table base g depth (reverse work) deep there v ts t seen w)
+
+pub infix-printed : (table : List (List ℕ)) (base : ℕ) (g : Graph) (depth : ℕ) (work new : List Piece) → base ≤ depth → ArePieces base g (reverse work) → (k : RigidHead) (c : Sym) (ts : List TermId) (a b : TermId) → rigid_head k ≡ term.Con c.0 → infix_word (word_of c.0) ≡ true → ts ≡ a ∷ b ∷ [] → AllValidAt g ts depth
+    → new ≡ work ++ Inner b depth ∷ Infix c ∷ Inner a depth ∷ [] → (p : Page)
+    → LeavesTerm table base text.top g (apply_all (At (rigid_head k)) (all_read g ts)) depth (reverse work) p g p (reverse new)
+infix-printed table base g depth work new deep there k c ts a b h i l v e p =
+    let valid = subst (λ (x : List TermId). AllValidAt g x depth) l v in
+    subst (λ (q : term.Head). LeavesTerm table base text.top g (apply_all (At q) (all_read g ts)) depth (reverse work) p g p (reverse new)) (sym h)
+    (subst (λ (x : List TermId). LeavesTerm table base text.top g (apply_all (At (term.Con c.0)) (all_read g x)) depth (reverse work) p g p (reverse new)) (sym l)
+      (leaves-same table base p _ _ g p p (Inner a depth ∷ Infix c ∷ Inner b depth ∷ reverse work) (reverse new) refl (pushed-three work new (Inner b depth) (Infix c) (Inner a depth) e)
+        (infix-leaves table base g depth (reverse work) deep there c a b p i valid.0 valid.1.0)))
+
+-- two items
+pub two-items : (ts : List TermId) (d : TermId) → length ts ≡ 2 → ts ≡ get_or ts 0 d ∷ get_or ts 1 d ∷ []
+two-items [] d e = absurd (omega (arith, e))
+two-items (a ∷ []) d e = absurd (omega (arith, e))
+two-items (a ∷ b ∷ []) d e = refl
+two-items (a ∷ b ∷ c ∷ ts) d e = absurd (omega (arith, e))
+
+-- what is pushed for an abstraction with arguments
+pub pushed-redex : (work one two : List Piece) (depth : ℕ) (ts : List TermId) → one ≡ work ++ reverse (argument_pieces depth ts) → two ≡ one ++ Close ∷ [] → reverse two ≡ Close ∷ argument_pieces depth ts ++ reverse work
+pushed-redex work one two depth ts e f = pushed-one one two Close f ∙ ap (λ (ps : List Piece). Close ∷ ps) (pushed-all work one (argument_pieces depth ts) e)
+
+pub redex-printed : (table : List (List ℕ)) (base : ℕ) (g h : Graph) (depth : ℕ) (work one two : List Piece) (u : Term) (t t' out seen : List ℕ) (ts : List TermId) → IsAbstraction u → FirstUnready g ts → (left : List Piece)
+    → one ≡ work ++ reverse (argument_pieces depth ts) → two ≡ one ++ Close ∷ [] → t' ≡ t ++ 40 ∷ []
+    → LeavesTerm table base text.top g u depth (reverse two) (page t' seen) h (page out seen) left
+    → LeavesTerm table base text.top g (apply_all u (all_read g ts)) depth (reverse work) (page t seen) h (page out seen) left
+redex-printed table base g h depth work one two u t t' out seen ts a r left e f q w =
+    redex-leaves table base g h depth (reverse work) u t seen ts a r (page out seen) left
+    (subst (λ (x : List ℕ). LeavesTerm table base text.top g u depth (Close ∷ argument_pieces depth ts ++ reverse work) (page x seen) h (page out seen) left) q
+      (subst (λ (ps : List Piece). LeavesTerm table base text.top g u depth ps (page t' seen) h (page out seen) left) (pushed-redex work one two depth ts e f) w))
+
+pub bracket-printed : (table : List (List ℕ)) (base : ℕ) (g h : Graph) (depth : ℕ) (work one : List Piece) (u : Term) (t t' seen : List ℕ) → is_bare u ≡ false → one ≡ work ++ Close ∷ [] → t' ≡ t ++ 40 ∷ [] → (new : Page) (left : List Piece)
+    → LeavesTerm table base text.top g u depth (reverse one) (page t' seen) h new left → LeavesTerm table base text.inner g u depth (reverse work) (page t seen) h new left
+bracket-printed table base g h depth work one u t t' seen b e q new left w =
+    bracket-leaves table base g h depth (reverse work) u t seen b new left
+    (subst (λ (x : List ℕ). LeavesTerm table base text.top g u depth (Close ∷ reverse work) (page x seen) h new left) q
+      (subst (λ (ps : List Piece). LeavesTerm table base text.top g u depth ps (page t' seen) h new left) (pushed-one work one Close e) w))
+
+pub bracket-stopped : (table : List (List ℕ)) (base : ℕ) (g h : Graph) (depth : ℕ) (work one : List Piece) (u : Term) (t t' seen : List ℕ) → is_bare u ≡ false → one ≡ work ++ Close ∷ [] → t' ≡ t ++ 40 ∷ [] → (new : List ℕ)
+    → StopsTerm table base text.top g u depth (reverse one) (page t' seen) new → StopsTerm table base text.inner g u depth (reverse work) (page t seen) new
+bracket-stopped table base g h depth work one u t t' seen b e q new w =
+    bracket-stops table base g h depth (reverse work) u t seen b new
+    (subst (λ (x : List ℕ). StopsTerm table base text.top g u depth (Close ∷ reverse work) (page x seen) new) q
+      (subst (λ (ps : List Piece). StopsTerm table base text.top g u depth ps (page t' seen) new) (pushed-one work one Close e) w))
+
+pub infix-stopped : (table : List (List ℕ)) (base : ℕ) (g : Graph) (c : Sym) (rest : List Piece) (t seen new : List ℕ) → GainsFront (infix_bytes table c) t new → Stops (page t seen) (work_parts table base g (Infix c ∷ rest)) new
+infix-stopped table base g c rest t seen new s =
+    (s.0, s.1, (s.2.0 ++ numbered seen (work_parts table base g rest),
+      sym (append_assoc s.0 s.2.0 (numbered seen (work_parts table base g rest))) ∙ ap (λ (u : List ℕ). u ++ numbered seen (work_parts table base g rest)) s.2.1
+      ∙ ap (λ (u : List ℕ). 32 ∷ u) (append_assoc (symbol table c.0) (32 ∷ []) (numbered seen (work_parts table base g rest)))))

@@ -1,6 +1,6 @@
 -- Writing a text part by part.
-use Rattle.std.proofs.Common.{◌≡◌, ℕ, List, [], ◌∷◌, ◌++◌, refl, sym, ap, ◌∙◌, append_assoc, append-nil, decimal, take, drop}
-use Rattle.std.specs.Prelude.{flat_map, OnErr, Ok, Err}
+use Rattle.std.proofs.Common.{◌≡◌, ℕ, List, [], ◌∷◌, ◌++◌, refl, sym, ap, ◌∙◌, append_assoc, append-nil, decimal, take, drop, subst}
+use Rattle.std.specs.Prelude.{flat_map, IfOk, OnOk, OnErr, Ok, Err}
 use Rattle.std.specs.declared.result.Result.{Result}
 use Rattle.std.proofs.lemmas.Grind.{flat_map-append}
 use Rattle.std.proofs.lemmas.List.{take-append-drop}
@@ -97,3 +97,24 @@ gains-map bs i old mid new e f = (flat_map escaped (take i bs), f ∙ e, (flat_m
 pub on-err : {T E : Type 0} {P : Type 0} → (r : Result T E) → P → OnErr r P
 on-err (Ok x) p = tt
 on-err (Err e) p = p
+
+-- what follows from a clause
+pub on-ok : {T E : Type 0} {P Q : Type 0} → (r : Result T E) → (P → Q) → OnOk r P → OnOk r Q
+on-ok (Ok x) f p = f p
+on-ok (Err e) f p = tt
+
+pub on-ok_two : {T E : Type 0} {P Q R : Type 0} → (r : Result T E) → (P → Q → R) → OnOk r P → OnOk r Q → OnOk r R
+on-ok_two (Ok x) f p q = f p q
+on-ok_two (Err e) f p q = tt
+
+pub on-err_from : {T E : Type 0} {P Q : Type 0} → (r : Result T E) → (P → Q) → OnErr r P → OnErr r Q
+on-err_from (Ok x) f p = tt
+on-err_from (Err e) f p = f p
+
+-- an error before anything was written
+pub stops-unchanged : (p : Page) (ps : List Part) (t : List ℕ) → t ≡ p.text → Stops p ps t
+stops-unchanged p ps t e = subst (Stops p ps) (sym e) (stops-now p ps)
+
+pub if-ok : {T E : Type 0} {P Q : T → Type 0} → (r : Result T E) → ((x : T) → P x → Q x) → IfOk r P → IfOk r Q
+if-ok (Ok x) f p = f x p
+if-ok (Err e) f p = tt

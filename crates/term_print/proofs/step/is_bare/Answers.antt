@@ -6,7 +6,7 @@ pub returns-in-Rigid : goal.returns-in-Rigid
 returns-in-Rigid c = λ g d h. bare-is g d c.args.form.now h ∙ ap bare_form c.in-Rigid.is ∙ ap (λ (n : ℕ). nat_eq n 0) (sym c.len.ensures)
 
 pub returns-in-Flex : goal.returns-in-Flex
-returns-in-Flex c = λ g d h. bare-is g d c.args.form.now h ∙ ap bare_form c.in-Flex.is ∙ ap (λ (n : ℕ). nat_eq n 0) (sym c.len.ensures)
+returns-in-Flex c = λ g d h. bare-is g d c.args.form.now h ∙ ap bare_form c.in-Flex.is ∙ ap (λ (n : ℕ). nat_eq n 0) (sym c.len-in-Flex.ensures)
 
 pub returns-in-Lam : goal.returns-in-Lam
 returns-in-Lam c = λ g d h. bare-is g d c.args.form.now h ∙ ap bare_form c.in-Lam.is
