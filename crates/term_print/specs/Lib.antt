@@ -2,3 +2,4 @@ pub mod Written
 pub mod Opened
 pub mod Heads
 pub mod Pieces
+pub mod Sequents

@@ -8,10 +8,14 @@ mod head;
 mod namer;
 mod piece;
 mod print;
+mod sequent;
+
 mod step;
 
 
 
 pub use namer::Namer;
 pub use print::print_term;
+pub use sequent::print_sequent;
+
 

@@ -24,13 +24,13 @@ pub returns-in_err-push-2-clause-grows : goal.returns-in_err-push-2-clause-grows
 returns-in_err-push-2-clause-grows c = grows-refl c.args.heap.now []
 
 pub returns-clause-prints : goal.returns-clause-prints
-returns-clause-prints c = on-ok c.write_form.result
-    (λ w. bracket-printed c.args.symbols.now c.args.base c.args.heap.now c.write_form.new.heap c.args.depth c.args.work.now.items c.push.new.self.items (seen_term c.args.heap.now c.args.form.now) c.args.out.now c.push-2.new.self c.args.namer.now
+returns-clause-prints c = on-ok c.write_form-2.result
+    (λ w. bracket-printed c.args.symbols.now c.args.base c.args.heap.now c.write_form-2.new.heap c.args.depth c.args.work.now.items c.push.new.self.items (seen_term c.args.heap.now c.args.form.now) c.args.out.now c.push-2.new.self c.args.namer.now
       (c.is_bare.ensures c.args.heap.now c.args.depth c.requires.form ∙ c.if-is_bare.false) c.in_ok-push.ensures.items c.in_ok-push-2.ensures.ok _ _ w)
-    c.write_form.ensures.prints
+    c.write_form-2.ensures.prints
 
 pub returns-clause-stops : goal.returns-clause-stops
-returns-clause-stops c = on-err_from c.write_form.result
-    (λ w. bracket-stopped c.args.symbols.now c.args.base c.args.heap.now c.write_form.new.heap c.args.depth c.args.work.now.items c.push.new.self.items (seen_term c.args.heap.now c.args.form.now) c.args.out.now c.push-2.new.self c.args.namer.now
-      (c.is_bare.ensures c.args.heap.now c.args.depth c.requires.form ∙ c.if-is_bare.false) c.in_ok-push.ensures.items c.in_ok-push-2.ensures.ok c.write_form.new.out w)
-    c.write_form.ensures.stops
+returns-clause-stops c = on-err_from c.write_form-2.result
+    (λ w. bracket-stopped c.args.symbols.now c.args.base c.args.heap.now c.write_form-2.new.heap c.args.depth c.args.work.now.items c.push.new.self.items (seen_term c.args.heap.now c.args.form.now) c.args.out.now c.push-2.new.self c.args.namer.now
+      (c.is_bare.ensures c.args.heap.now c.args.depth c.requires.form ∙ c.if-is_bare.false) c.in_ok-push.ensures.items c.in_ok-push-2.ensures.ok c.write_form-2.new.out w)
+    c.write_form-2.ensures.stops
