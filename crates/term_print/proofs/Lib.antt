@@ -6,3 +6,4 @@ pub mod FormLemmas
 pub mod StepLemmas
 pub mod LookLemmas
 pub mod PrintLemmas
+pub mod SequentLemmas

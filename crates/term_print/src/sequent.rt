@@ -2,12 +2,14 @@
 
 ghost use Rattle.std.specs.Prelude.{◌≡◌, [], ◌∷◌, ◌++◌, ◌<◌, length, OnOk, OnErr, decimal};
 ghost use Rattle.level_terms.specs.Growth.{Grows};
+ghost use Rattle.level_terms.specs.Reading.{read};
 ghost use Rattle.level_terms.specs.Valid.{IsValid};
 ghost use Rattle.ref_terms.specs.search.Branch.{Constraint};
 ghost use Rattle.ref_terms.specs.texts.Answer.{sequent_parts};
 ghost use Rattle.ref_terms.specs.texts.Numbering.{numbered};
+ghost use Rattle.beta_fragment.specs.Names.{names};
 ghost use Rattle.beta_fragment.specs.HeadForm.{AllValidAt, all_read};
-ghost use Rattle.term_print.specs.Sequents.{IsSequent, names_bytes, more_names, scope_bytes, more_lines, all_lines};
+ghost use Rattle.term_print.specs.Sequents.{IsSequent, names_bytes, more_names, scope_bytes, more_lines, all_lines, sequent_line};
 ghost use Rattle.term_print.specs.Pieces.{page};
 ghost use Rattle.term_print.specs.Written.{seen_after, GainsFront, Prints, Stops};
 
@@ -98,6 +100,30 @@ fn print_all(
     print_more(alloc, heap, symbols, &terms[1..], depth, namer, out)
 }
 
+/// Puts a sequent last, by the terms of its assumptions and of its goal.
+fn print_line(
+    alloc: Global,
+    heap: &mut Heap,
+    symbols: &Symbols,
+    hyps: &[TermId],
+    goal: TermId,
+    depth: usize,
+    namer: &mut Namer,
+    out: &mut ByteText,
+) -> Result<(), AllocError>
+    requires hyps { AllValidAt heap.old hyps.now depth }
+    requires goal { IsValid heap.old goal.index depth }
+    ensures prints { OnOk result (Prints (page out.old namer.old) (sequent_line symbols.now depth (all_read heap.old hyps.now) (read heap.old goal.index names)) (page out.new namer.new) []) }
+    ensures stops { OnErr result (Stops (page out.old namer.old) (sequent_line symbols.now depth (all_read heap.old hyps.now) (read heap.old goal.index names)) out.new) }
+    ensures grows { Grows heap.old heap.new [] [] }
+{
+    heap.is_sound();
+    write_scope(alloc, depth, out)?;
+    print_all(alloc, heap, symbols, hyps, depth, namer, out)?;
+    out.push_slice(b"] ?- ")?;
+    print_term(alloc, heap, symbols, goal, depth, namer, out)
+}
+
 /// Puts the sequent last: its names, the assumptions in the order in which they are tried, and the
 /// goal. A variable has one number in all of it.
 ///
@@ -120,9 +146,5 @@ pub fn print_sequent(
     ensures front { OnErr result ((c : Constraint) → IsSequent heap.old depth hyps.now goal c → GainsFront (numbered namer.old (sequent_parts symbols.now c)) out.old out.new) }
     ensures grows { Grows heap.old heap.new [] [] }
 {
-    heap.is_sound();
-    write_scope(alloc, depth, out)?;
-    print_all(alloc, heap, symbols, hyps, depth, namer, out)?;
-    out.push_slice(b"] ?- ")?;
-    print_term(alloc, heap, symbols, goal, depth, namer, out)
+    print_line(alloc, heap, symbols, hyps, goal, depth, namer, out)
 }
