@@ -16,7 +16,7 @@ use Rattle.term_print.proofs.sequent.print_line.Goals as goal
 
 pub returns-in_err-write_scope-clause-stops : goal.returns-in_err-write_scope-clause-stops
 returns-in_err-write_scope-clause-stops c = on-err c.from_residual.result
-    (stops-bytes (page c.args.out.now c.args.namer.now) (scope_bytes c.args.depth) _ c.write_scope.new.out c.in_err-write_scope.ensures.err)
+    (stops-bytes (page c.args.out.now c.args.namer.now) (scope_bytes c.args.depth) (all_lines c.args.symbols.now (all_read c.args.heap.now c.args.hyps.now) ++ Bytes (codes "] ?- ") ∷ term_line c.args.symbols.now (read c.args.heap.now c.args.goal.index names)) c.write_scope.new.out c.in_err-write_scope.ensures.err)
 
 pub returns-in_err-write_scope-clause-grows : goal.returns-in_err-write_scope-clause-grows
 returns-in_err-write_scope-clause-grows c = grows-refl c.args.heap.now []
