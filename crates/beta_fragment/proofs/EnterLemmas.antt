@@ -29,7 +29,7 @@ pub first-places : (x : Term) → IsPlace x → ArePlaces (first x)
 first-places x p zero = p
 first-places x p (suc n) = tt
 
-entered : (d : ℕ) (x : Term) (env : ℕ → Term) (i : ℕ) → sub (first x) (enter d env i) ≡ at_level d x env i
+pub entered : (d : ℕ) (x : Term) (env : ℕ → Term) (i : ℕ) → sub (first x) (enter d env i) ≡ at_level d x env i
 entered d x env i = go (nat_eq d i)
   where
     go : (b : Bool) → sub (first x) (cond b (At (term.Bound 0)) (shift (env i))) ≡ cond b x (env i)

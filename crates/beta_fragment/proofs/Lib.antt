@@ -9,3 +9,7 @@ pub mod StayLemmas
 pub mod SplitLemmas
 pub mod LiftLemmas
 pub mod FirmLemmas
+pub mod HeadLemmas
+pub mod TurnLemmas
+pub mod FirstLemmas
+pub mod OpenLemmas

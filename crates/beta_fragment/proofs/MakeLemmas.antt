@@ -69,10 +69,10 @@ app-made g h k ts r s s' e made known there =
     let args = values-kept g h s w ts there in
     record {
       term = λ env p. nodes_read h r.index (App k ts) env s' p at
-        ∙ ap (apply_all (read h k.index env)) (terms-of h env ts)
-        ∙ ap₂ (λ (x : Value) (xs : List Value). apply_all (x.term env) (map (λ (y : Value). y.term env) xs)) head args;
+          ∙ ap (apply_all (read h k.index env)) (terms-of h env ts)
+          ∙ ap₂ (λ (x : Value) (xs : List Value). apply_all (x.term env) (map (λ (y : Value). y.term env) xs)) head args;
       holds = λ d a b. nodes_valid h r.index (App k ts) d s' at
-        ∙ and_both (valid h.nodes h.depths k.index d) _ (ap (λ (x : Value). x.holds d) head ∙ a) (all-hold h d ts (ap (λ (xs : List Value). list_all (λ (y : Value). y.holds d) xs) args ∙ b));
+          ∙ and_both (valid h.nodes h.depths k.index d) _ (ap (λ (x : Value). x.holds d) head ∙ a) (all-hold h d ts (ap (λ (xs : List Value). list_all (λ (y : Value). y.holds d) xs) args ∙ b));
     }
 
 -- an abstraction
@@ -85,14 +85,14 @@ lam-made g h d b r s s' e made known =
     record {
       term = λ env p. nodes_read h r.index (Lam d b) env s' p at ∙ ap (λ (x : Value). lam (x.term (enter d env))) body;
       holds = λ q f l. nodes_valid h r.index (Lam d b) f s' at
-        ∙ and_both (nat_lt d (suc f)) _ (below d f l) (ap (λ (x : Value). x.holds (suc d)) body ∙ subst (λ n. valid g.nodes g.depths b.index n ≡ true) (let z : d + 1 ≡ suc d = omega arith in z) q);
+          ∙ and_both (nat_lt d (suc f)) _ (below d f l) (ap (λ (x : Value). x.holds (suc d)) body ∙ subst (λ n. valid g.nodes g.depths b.index n ≡ true) (let z : d + 1 ≡ suc d = omega arith in z) q);
     }
   where
     below : (d f : ℕ) → d ≤ f → nat_lt d (suc f) ≡ true
     below d f l = grind (arith, l)
 
 -- an application before more arguments is one with all of them
-apply_all-append : (xs ys : List Term) (t : Term) → apply_all t (xs ++ ys) ≡ apply_all (apply_all t xs) ys
+pub apply_all-append : (xs ys : List Term) (t : Term) → apply_all t (xs ++ ys) ≡ apply_all (apply_all t xs) ys
 apply_all-append [] ys t = refl
 apply_all-append (x ∷ xs) ys t = apply_all-append xs ys (apply t x)
 
@@ -112,13 +112,13 @@ pub app-flattened : (g : Graph) (t k : TermId) (ts us : List TermId) (x : Value)
     IsAppOf (value_of g k) (map (value_of g) (ts ++ us)) x → IsAppOf (value_of g t) (map (value_of g) us) x
 app-flattened g t k ts us x s e w = record {
   term = λ env p. w.term env p
-    ∙ ap (apply_all (read g k.index env)) (sym (terms-of g env (ts ++ us)) ∙ map-append (λ u. read g u.index env) ts us)
-    ∙ apply_all-append (map (λ u. read g u.index env) ts) (map (λ u. read g u.index env) us) (read g k.index env)
-    ∙ ap₂ apply_all (sym (nodes_read g t.index (App k ts) env s p e)) (terms-of g env us);
+      ∙ ap (apply_all (read g k.index env)) (sym (terms-of g env (ts ++ us)) ∙ map-append (λ u. read g u.index env) ts us)
+      ∙ apply_all-append (map (λ u. read g u.index env) ts) (map (λ u. read g u.index env) us) (read g k.index env)
+      ∙ ap₂ apply_all (sym (nodes_read g t.index (App k ts) env s p e)) (terms-of g env us);
   holds = λ d a b.
-    let both = sym (nodes_valid g t.index (App k ts) d s e) ∙ a in
-    w.holds d (and_left _ _ both)
-    (ap (λ (xs : List Value). list_all (λ (y : Value). y.holds d) xs) (map-append (value_of g) ts us)
+      let both = sym (nodes_valid g t.index (App k ts) d s e) ∙ a in
+      w.holds d (and_left _ _ both)
+      (ap (λ (xs : List Value). list_all (λ (y : Value). y.holds d) xs) (map-append (value_of g) ts us)
       ∙ list_all-append (λ (y : Value). y.holds d) (map (value_of g) ts) (map (value_of g) us) (unholding g d ts (and_right _ _ both)) b);
 }
 

@@ -121,12 +121,12 @@ pub lam-moves : (g : Graph) (ns : List ℕ) (to t base s d : ℕ) (b : TermId) (
     Moves g ns to b.index (min base d) (suc d) y → IsLamOf (d - min base d + to) y x → Moves g ns to t base s x
 lam-moves g ns to t base s d b y x sound all e v low few m w = record {
   term = λ env p. w.term env p
-    ∙ ap lam (m.term (enter (d - min base d + to) env) (places-enter (d - min base d + to) env p)
+      ∙ ap lam (m.term (enter (d - min base d + to) env) (places-enter (d - min base d + to) env p)
       ∙ sym (readings_local g b.index (suc d) (enter d (moved ns base to env)) (moved ns (min base d) to (enter (d - min base d + to) env)) (body-valid g sound t d b s e v) (moved-inner ns base to d all few env)))
-    ∙ sym (nodes_read g t (Lam d b) (moved ns base to env) sound (moved-places ns base to env p) e);
+      ∙ sym (nodes_read g t (Lam d b) (moved ns base to env) sound (moved-places ns base to env p) e);
   holds = λ f q.
-    let deep : d < suc s = below_from d (suc s) (and_left _ _ (sym (nodes_valid g t (Lam d b) s sound e) ∙ v)) in
-    w.holds (m.holds (d - min base d + to + 1) (omega arith)) f (omega (arith, deep, low, q));
+      let deep : d < suc s = below_from d (suc s) (and_left _ _ (sym (nodes_valid g t (Lam d b) s sound e) ∙ v)) in
+      w.holds (m.holds (d - min base d + to + 1) (omega arith)) f (omega (arith, deep, low, q));
 }
 
 -- the parts of an application
@@ -152,8 +152,8 @@ pub app-moves : (g : Graph) (ns : List ℕ) (to t base s : ℕ) (k : TermId) (ts
     Moves g ns to k.index base s h → AllMove g ns to base s ts xs → IsAppOf h xs x → Moves g ns to t base s x
 app-moves g ns to t base s k ts h x xs sound e m ms w = record {
   term = λ env p. w.term env p
-    ∙ ap₂ apply_all (m.term env p) (terms-move g ns to base s ts xs ms env p)
-    ∙ sym (nodes_read g t (App k ts) (moved ns base to env) sound (moved-places ns base to env p) e);
+      ∙ ap₂ apply_all (m.term env p) (terms-move g ns to base s ts xs ms env p)
+      ∙ sym (nodes_read g t (App k ts) (moved ns base to env) sound (moved-places ns base to env p) e);
   holds = λ f q. w.holds f (m.holds f q) (all-hold g ns to base s ts xs ms f q);
 }
 
@@ -170,11 +170,11 @@ pub value-moves : (g : Graph) (ns : List ℕ) (to t base s value : ℕ) (v : Var
     Moves g ns to value (min base (slice_index g.depths v.index)) (slice_index g.depths v.index) x → Moves g ns to t base s x
 value-moves g ns to t base s value v x sound e f valid low few m = record {
   term = λ env p. m.term env p
-    ∙ sym (readings_local g value (slice_index g.depths v.index) (moved ns base to env) (moved ns (min base (slice_index g.depths v.index)) to env) (value-valid g.nodes g.depths g.assigned sound.valid v.index value f) (same env))
-    ∙ sym (nodes_read g t (Var v) (moved ns base to env) sound (moved-places ns base to env p) e ∙ ap (λ o. variable_reads g v.index o (moved ns base to env)) f);
+      ∙ sym (readings_local g value (slice_index g.depths v.index) (moved ns base to env) (moved ns (min base (slice_index g.depths v.index)) to env) (value-valid g.nodes g.depths g.assigned sound.valid v.index value f) (same env))
+      ∙ sym (nodes_read g t (Var v) (moved ns base to env) sound (moved-places ns base to env p) e ∙ ap (λ o. variable_reads g v.index o (moved ns base to env)) f);
   holds = λ d q.
-    let deep : slice_index g.depths v.index < suc s = below_from (slice_index g.depths v.index) (suc s) (sym (nodes_valid g t (Var v) s sound e) ∙ valid) in
-    m.holds d (omega (arith, deep, low, q));
+      let deep : slice_index g.depths v.index < suc s = below_from (slice_index g.depths v.index) (suc s) (sym (nodes_valid g t (Var v) s sound e) ∙ valid) in
+      m.holds d (omega (arith, deep, low, q));
 }
   where
     same : (env : ℕ → Term) (i : ℕ) → i < slice_index g.depths v.index → moved ns base to env i ≡ moved ns (min base (slice_index g.depths v.index)) to env i

@@ -44,11 +44,11 @@ var-made g h v r s e made free =
     let depths : h.depths ≡ g.depths = λ i. (made i).depths in
     record {
       term = λ env p. nodes_read h r.index (Var v) env s p at
-        ∙ ap (λ o. variable_reads h v.index o env) none
-        ∙ ap (λ (ds : List ℕ). apply_all (At (term.Var v.index)) (levels (slice_index ds v.index) env)) depths;
+          ∙ ap (λ o. variable_reads h v.index o env) none
+          ∙ ap (λ (ds : List ℕ). apply_all (At (term.Var v.index)) (levels (slice_index ds v.index) env)) depths;
       holds = λ d k. nodes_valid h r.index (Var v) d s at
-        ∙ ap (λ (ds : List ℕ). nat_lt (slice_index ds v.index) (suc d)) depths
-        ∙ below_true (slice_index g.depths v.index) (suc d) (omega (arith, k));
+          ∙ ap (λ (ds : List ℕ). nat_lt (slice_index ds v.index) (suc d)) depths
+          ∙ below_true (slice_index g.depths v.index) (suc d) (omega (arith, k));
     }
 
 -- the last of so many levels
@@ -56,7 +56,7 @@ levels-last : (d : ℕ) (e : ℕ → Term) → levels (suc d) e ≡ levels d e +
 levels-last zero e = refl
 levels-last (suc d) e = ap (λ (xs : List Term). e 0 ∷ xs) (levels-last d (λ i. e (suc i)))
 
-levels-agree : (d : ℕ) (e f : ℕ → Term) → ((i : ℕ) → i < d → e i ≡ f i) → levels d e ≡ levels d f
+pub levels-agree : (d : ℕ) (e f : ℕ → Term) → ((i : ℕ) → i < d → e i ≡ f i) → levels d e ≡ levels d f
 levels-agree zero e f h = refl
 levels-agree (suc d) e f h = ap₂ (λ (x : Term) (xs : List Term). x ∷ xs) (h 0 (omega arith)) (levels-agree d (λ i. e (suc i)) (λ i. f (suc i)) (λ i k. h (suc i) (omega (arith, k))))
 
@@ -64,10 +64,10 @@ levels-shift : (d : ℕ) (e : ℕ → Term) → levels d (λ i. shift (e i)) ≡
 levels-shift zero e = refl
 levels-shift (suc d) e = ap (λ (xs : List Term). shift (e 0) ∷ xs) (levels-shift d (λ i. e (suc i)))
 
-enter-own : (d : ℕ) (env : ℕ → Term) → enter d env d ≡ At (term.Bound 0)
+pub enter-own : (d : ℕ) (env : ℕ → Term) → enter d env d ≡ At (term.Bound 0)
 enter-own d env = ap (λ b. cond b (At (term.Bound 0)) (shift (env d))) (eq-eqb d d refl)
 
-enter-other : (d : ℕ) (env : ℕ → Term) (i : ℕ) → i < d → enter d env i ≡ shift (env i)
+pub enter-other : (d : ℕ) (env : ℕ → Term) (i : ℕ) → i < d → enter d env i ≡ shift (env i)
 enter-other d env i h = ap (λ b. cond b (At (term.Bound 0)) (shift (env i))) (ne_eqb d i (omega (arith, h)))
 
 apply_all-last : (xs : List Term) (t x : Term) → apply_all t (xs ++ x ∷ []) ≡ apply (apply_all t xs) x
@@ -91,8 +91,8 @@ built-levels (suc d) e t p w = built-levels d (λ i. e (suc i)) (apply t (e 0)) 
 abstracted : (v d : ℕ) (env : ℕ → Term) → ArePlaces env → lam (apply_all (At (term.Var v)) (levels (suc d) (enter d env))) ≡ apply_all (At (term.Var v)) (levels d env)
 abstracted v d env p =
     ap lam (ap (apply_all (At (term.Var v))) (levels-last d (enter d env) ∙ ap₂ (λ (xs : List Term) (x : Term). xs ++ x ∷ []) (levels-agree d (enter d env) (λ i. shift (env i)) (enter-other d env) ∙ levels-shift d env) (enter-own d env))
-      ∙ apply_all-last (map shift (levels d env)) (At (term.Var v)) (At (term.Bound 0))
-      ∙ ap (λ f. apply f (At (term.Bound 0))) (apply_all-shift (levels d env) (At (term.Var v))))
+    ∙ apply_all-last (map shift (levels d env)) (At (term.Var v)) (At (term.Bound 0))
+    ∙ ap (λ f. apply f (At (term.Bound 0))) (apply_all-shift (levels d env) (At (term.Var v))))
     ∙ lam-apply (apply_all (At (term.Var v)) (levels d env)) (built-levels d env (At (term.Var v)) p tt)
 
 pub lam-var : (v d : ℕ) (y x : Value) → IsLamOf d y x → IsVarOf v (suc d) y → IsVarOf v d x
@@ -102,15 +102,15 @@ lam-var v d y x w m = record {
 }
 
 -- levels, moved
-levels-terms : (ns : List ℕ) (base to k : ℕ) (xs : List Value) → AreLevelsOf ns base to k xs → (env : ℕ → Term) → ArePlaces env →
+pub levels-terms : (ns : List ℕ) (base to k : ℕ) (xs : List Value) → AreLevelsOf ns base to k xs → (env : ℕ → Term) → ArePlaces env →
     map (λ (y : Value). y.term env) xs ≡ levels (length xs) (λ i. moved ns base to env (k + i))
 levels-terms ns base to k [] w env p = refl
 levels-terms ns base to k (x ∷ xs) w env p =
     let here : moved ns base to env k ≡ moved ns base to env (k + 0) = ap (moved ns base to env) (let q : k ≡ k + 0 = omega arith in q) in
     ap₂ (λ (y : Term) (ys : List Term). y ∷ ys) (w.0.term env p ∙ here) (levels-terms ns base to (suc k) xs w.1 env p
-      ∙ ap (levels (length xs)) (fun_ext (λ i. ap (moved ns base to env) (let q : suc k + i ≡ k + suc i = omega arith in q))))
+    ∙ ap (levels (length xs)) (fun_ext (λ i. ap (moved ns base to env) (let q : suc k + i ≡ k + suc i = omega arith in q))))
 
-levels-hold : (ns : List ℕ) (base to k : ℕ) (xs : List Value) → AreLevelsOf ns base to k xs → (e : ℕ) → ((i : ℕ) → i < k + length xs → moved_level ns base to i < e) → list_all (λ (y : Value). y.holds e) xs ≡ true
+pub levels-hold : (ns : List ℕ) (base to k : ℕ) (xs : List Value) → AreLevelsOf ns base to k xs → (e : ℕ) → ((i : ℕ) → i < k + length xs → moved_level ns base to i < e) → list_all (λ (y : Value). y.holds e) xs ≡ true
 levels-hold ns base to k [] w e h = refl
 levels-hold ns base to k (x ∷ xs) w e h = and_both (x.holds e) _ (w.0.holds e (h k (omega arith))) (levels-hold ns base to (suc k) xs w.1 e (λ i q. h i (omega (arith, q))))
 
@@ -121,7 +121,7 @@ levels-more ns base to k (y ∷ ys) x w m = (w.0, levels-more ns base to (suc k)
 pub var-applied : (ns : List ℕ) (base to v depth : ℕ) (h x : Value) (xs : List Value) → IsVarOf v 0 h → AreLevelsOf ns base to 0 xs → length xs ≡ depth → IsAppOf h xs x → IsMovedVar ns base to v depth x
 var-applied ns base to v depth h x xs m w l a = record {
   term = λ env p. a.term env p
-    ∙ ap₂ apply_all (m.term env p) (levels-terms ns base to 0 xs w env p
+      ∙ ap₂ apply_all (m.term env p) (levels-terms ns base to 0 xs w env p
       ∙ ap₂ levels l (fun_ext (λ i. ap (moved ns base to env) (let q : 0 + i ≡ i = omega arith in q))));
   holds = λ e k. a.holds e (m.holds e (omega arith)) (levels-hold ns base to 0 xs w e (λ i q. k i (omega (arith, q, l))));
 }
@@ -130,10 +130,10 @@ pub var-moves : (g : Graph) (ns : List ℕ) (to t base s : ℕ) (v : VarId) (x :
     IsMovedVar ns base to v.index (slice_index g.depths v.index) x → Moves g ns to t base s x
 var-moves g ns to t base s v x sound all e free valid low few m = record {
   term = λ env p. m.term env p
-    ∙ sym (nodes_read g t (Var v) (moved ns base to env) sound (moved-places ns base to env p) e ∙ ap (λ o. variable_reads g v.index o (moved ns base to env)) free);
+      ∙ sym (nodes_read g t (Var v) (moved ns base to env) sound (moved-places ns base to env p) e ∙ ap (λ o. variable_reads g v.index o (moved ns base to env)) free);
   holds = λ f q.
-    let deep : slice_index g.depths v.index < suc s = below_from (slice_index g.depths v.index) (suc s) (sym (nodes_valid g t (Var v) s sound e) ∙ valid) in
-    m.holds f (λ i k. let lt : moved_level ns base to i < s - base + to = moved-below ns base to s i all few low (omega (arith, k, deep)) in omega (arith, lt, q));
+      let deep : slice_index g.depths v.index < suc s = below_from (slice_index g.depths v.index) (suc s) (sym (nodes_valid g t (Var v) s sound e) ∙ valid) in
+      m.holds f (λ i k. let lt : moved_level ns base to i < s - base + to = moved-below ns base to s i all few low (omega (arith, k, deep)) in omega (arith, lt, q));
 }
 
 -- a variable's node has a variable that is there
@@ -161,9 +161,13 @@ module _ (ns : List ℕ) (to : ℕ) where
       let has = sym (assigned-before g h gr v.index) ∙ f in
       let deep = value-valid g.nodes g.depths g.assigned sg.valid v.index value.index has in
       let few = l.3 in
-      subst (λ d. Leads g ns to t base source (Visit value (min b d) ∷ k) xs) (sym (depth-before g h gr v.index known))
-      (slice_index g.depths v.index, deep, omega arith, omega (arith, few),
-        λ x m. l.4 x (value-moves g ns to node.index b l.0 value.index v x sg here has l.1 l.2 l.3 m))
+      subst (λ d. Leads g ns to t base source (Visit value (min b d) ∷ k) xs) (sym (depth-before g h gr v.index known)) (
+        slice_index g.depths v.index,
+        deep,
+        omega arith,
+        omega (arith, few),
+        λ x m. l.4 x (value-moves g ns to node.index b l.0 value.index v x sg here has l.1 l.2 l.3 m),
+      )
 
 pub value-falls : (g h : Graph) (node value : TermId) (v : VarId) (b : ℕ) → IsSound g → Grows g h [] [] → node.index < length g.nodes → node_at h.nodes node.index ≡ Some (Var v) → value_in h.assigned v.index ≡ Some value.index →
     work_size g (Visit value b ∷ []) < 2 * tree_size (tree g node.index)

@@ -92,20 +92,19 @@ visits-size g b [] = omega arith
 visits-size g b (t ∷ ts) = let h = visits-size g b ts in omega (arith, h)
 
 module _ (ns : List ℕ) (to : ℕ) where
-
   -- a visit that is done at once
   pub steps-done : (old new : Graph) (work : List Task) (done : List TermId) (node r : TermId) (b : ℕ) → IsSound old → Grows old new [] [] → AllOlder (length old.nodes) done →
       ((g : Graph) (s : ℕ) → IsSound g → Grows g old [] [] → IsValid g node.index s → b ≤ s → b ≤ length ns → Moves g ns to node.index b s (value_of new r)) →
       Steps ns to (record { heap = old; work = work ++ Visit node b ∷ []; done = done }) (record { heap = new; work = work; done = done ++ r ∷ [] })
   steps-done old new work done node r b so w there m = record {
     leads = λ g t base source sg gr l.
-      let h = subst (λ ks. Leads g ns to t base source ks (map (value_of old) done)) (newest-task work (Visit node b)) l in
-      let next = h.4 (value_of new r) (m g h.0 sg gr h.1 h.2 h.3) in
-      subst (Leads g ns to t base source (reverse work)) (ap (λ xs. xs ++ value_of new r ∷ []) (sym (values-kept old new so w done there)) ∙ sym (map-append (value_of new) done (r ∷ []))) next;
+        let h = subst (λ ks. Leads g ns to t base source ks (map (value_of old) done)) (newest-task work (Visit node b)) l in
+        let next = h.4 (value_of new r) (m g h.0 sg gr h.1 h.2 h.3) in
+        subst (Leads g ns to t base source (reverse work)) (ap (λ xs. xs ++ value_of new r ∷ []) (sym (values-kept old new so w done there)) ∙ sym (map-append (value_of new) done (r ∷ []))) next;
     falls = λ g t base source sg gr l.
-      let size = ap (work_size g) (newest-task work (Visit node b)) in
-      let some = size-some (tree g node.index) in
-      omega (arith, size, some);
+        let size = ap (work_size g) (newest-task work (Visit node b)) in
+        let some = size-some (tree g node.index) in
+        omega (arith, size, some);
   }
 
   -- a visit that leads to other tasks
@@ -115,14 +114,14 @@ module _ (ns : List ℕ) (to : ℕ) where
       Steps ns to (record { heap = heap; work = work ++ Visit node b ∷ []; done = done }) (record { heap = heap; work = work ++ more; done = done })
   steps-more heap work more ks done node b same small m = record {
     leads = λ g t base source sg gr l.
-      let h = subst (λ js. Leads g ns to t base source js (map (value_of heap) done)) (newest-task work (Visit node b)) l in
-      subst (λ js. Leads g ns to t base source js (map (value_of heap) done)) (sym (reverse-append work more ∙ ap (λ js. js ++ reverse work) same)) (m g t base source (reverse work) (map (value_of heap) done) sg gr h);
+        let h = subst (λ js. Leads g ns to t base source js (map (value_of heap) done)) (newest-task work (Visit node b)) l in
+        subst (λ js. Leads g ns to t base source js (map (value_of heap) done)) (sym (reverse-append work more ∙ ap (λ js. js ++ reverse work) same)) (m g t base source (reverse work) (map (value_of heap) done) sg gr h);
     falls = λ g t base source sg gr l.
-      let h = subst (λ js. Leads g ns to t base source js (map (value_of heap) done)) (newest-task work (Visit node b)) l in
-      let size = ap (work_size g) (newest-task work (Visit node b)) in
-      let after = ap (work_size g) (reverse-append work more ∙ ap (λ js. js ++ reverse work) same) ∙ work-append g ks (reverse work) in
-      let less = small g sg gr h.0 h.1 in
-      omega (arith, size, after, less);
+        let h = subst (λ js. Leads g ns to t base source js (map (value_of heap) done)) (newest-task work (Visit node b)) l in
+        let size = ap (work_size g) (newest-task work (Visit node b)) in
+        let after = ap (work_size g) (reverse-append work more ∙ ap (λ js. js ++ reverse work) same) ∙ work-append g ks (reverse work) in
+        let less = small g sg gr h.0 h.1 in
+        omega (arith, size, after, less);
   }
 
   -- an abstraction is made
@@ -130,10 +129,10 @@ module _ (ns : List ℕ) (to : ℕ) where
       Steps ns to (record { heap = old; work = work ++ Lam d ∷ []; done = front ++ body ∷ [] }) (record { heap = new; work = work; done = front ++ r ∷ [] })
   steps-lam old new work front body r d so w there m = record {
     leads = λ g t base source sg gr l.
-      let h = subst (λ ks. Leads g ns to t base source ks (map (value_of old) (front ++ body ∷ []))) (newest-task work (Lam d)) l in
-      let parts = split-unique (map (value_of old) front) h.0 (value_of old body) h.1 [] [] refl (sym (map-append (value_of old) front (body ∷ [])) ∙ h.2) in
-      let next = h.3 (value_of new r) (subst (λ y. IsLamOf d y (value_of new r)) parts.1 m) in
-      subst (Leads g ns to t base source (reverse work)) (ap (λ xs. xs ++ value_of new r ∷ []) (sym (values-kept old new so w front there ∙ parts.0)) ∙ sym (map-append (value_of new) front (r ∷ []))) next;
+        let h = subst (λ ks. Leads g ns to t base source ks (map (value_of old) (front ++ body ∷ []))) (newest-task work (Lam d)) l in
+        let parts = split-unique (map (value_of old) front) h.0 (value_of old body) h.1 [] [] refl (sym (map-append (value_of old) front (body ∷ [])) ∙ h.2) in
+        let next = h.3 (value_of new r) (subst (λ y. IsLamOf d y (value_of new r)) parts.1 m) in
+        subst (Leads g ns to t base source (reverse work)) (ap (λ xs. xs ++ value_of new r ∷ []) (sym (values-kept old new so w front there ∙ parts.0)) ∙ sym (map-append (value_of new) front (r ∷ []))) next;
     falls = λ g t base source sg gr l. let size = ap (work_size g) (newest-task work (Lam d)) in omega (arith, size);
   }
 
@@ -142,10 +141,10 @@ module _ (ns : List ℕ) (to : ℕ) where
       Steps ns to (record { heap = old; work = work ++ App n ∷ []; done = front ++ head ∷ args }) (record { heap = new; work = work; done = front ++ r ∷ [] })
   steps-app old new work front args head r n so w there long m = record {
     leads = λ g t base source sg gr l.
-      let h = subst (λ ks. Leads g ns to t base source ks (map (value_of old) (front ++ head ∷ args))) (newest-task work (App n)) l in
-      let parts = split-unique (map (value_of old) front) h.0 (value_of old head) h.1 (map (value_of old) args) h.2 (length-map args (value_of old) ∙ long ∙ sym h.4) (sym (map-append (value_of old) front (head ∷ args)) ∙ h.3) in
-      let next = h.5 (value_of new r) (subst (λ y. IsAppOf y h.2 (value_of new r)) parts.1 (subst (λ ys. IsAppOf (value_of old head) ys (value_of new r)) parts.2 m)) in
-      subst (Leads g ns to t base source (reverse work)) (ap (λ xs. xs ++ value_of new r ∷ []) (sym (values-kept old new so w front there ∙ parts.0)) ∙ sym (map-append (value_of new) front (r ∷ []))) next;
+        let h = subst (λ ks. Leads g ns to t base source ks (map (value_of old) (front ++ head ∷ args))) (newest-task work (App n)) l in
+        let parts = split-unique (map (value_of old) front) h.0 (value_of old head) h.1 (map (value_of old) args) h.2 (length-map args (value_of old) ∙ long ∙ sym h.4) (sym (map-append (value_of old) front (head ∷ args)) ∙ h.3) in
+        let next = h.5 (value_of new r) (subst (λ y. IsAppOf y h.2 (value_of new r)) parts.1 (subst (λ ys. IsAppOf (value_of old head) ys (value_of new r)) parts.2 m)) in
+        subst (Leads g ns to t base source (reverse work)) (ap (λ xs. xs ++ value_of new r ∷ []) (sym (values-kept old new so w front there ∙ parts.0)) ∙ sym (map-append (value_of new) front (r ∷ []))) next;
     falls = λ g t base source sg gr l. let size = ap (work_size g) (newest-task work (App n)) in omega (arith, size);
   }
 
@@ -162,15 +161,18 @@ moved-length g ns to b s [] (x ∷ xs) w = absurd w
 moved-length g ns to b s (t ∷ ts) (x ∷ xs) w = ap suc (moved-length g ns to b s ts xs w.1)
 
 module _ (ns : List ℕ) (to : ℕ) where
-
   -- a visit of an abstraction
   pub lam-leads : (g : Graph) (t base source : ℕ) (node body : TermId) (b d : ℕ) (k : List Task) (xs : List Value) → IsSound g → AllBelow ns to → (node.index < length g.nodes → node_at g.nodes node.index ≡ Some (lam_node d body)) →
       Leads g ns to t base source (Visit node b ∷ k) xs → Leads g ns to t base source (Visit body (min b d) ∷ Lam (d - min b d + to) ∷ k) xs
   lam-leads g t base source node body b d k xs sg all here h =
       let e = here (valid-below g node.index h.0 h.1) in
-      let low = h.3 in
-      (suc d, body-valid g sg node.index d body h.0 e h.1, omega arith, omega (arith, low),
-        λ y m. (xs, y, refl, λ x w. h.4 x (lam-moves g ns to node.index b h.0 d body y x sg all e h.1 h.2 h.3 m w)))
+      let low = h.3 in (
+        suc d,
+        body-valid g sg node.index d body h.0 e h.1,
+        omega arith,
+        omega (arith, low),
+        λ y m. (xs, y, refl, λ x w. h.4 x (lam-moves g ns to node.index b h.0 d body y x sg all e h.1 h.2 h.3 m w)),
+      )
 
   pub lam-falls : (g : Graph) (node body : TermId) (b d : ℕ) → IsSound g → node_at g.nodes node.index ≡ Some (lam_node d body) → work_size g (Visit body (min b d) ∷ Lam (d - min b d + to) ∷ []) < 2 * tree_size (tree g node.index)
   lam-falls g node body b d sg e = let less = lam-size g node.index d body sg e in omega (arith, less)
@@ -180,12 +182,23 @@ module _ (ns : List ℕ) (to : ℕ) where
       Leads g ns to t base source (Visit node b ∷ k) xs → Leads g ns to t base source ((Visit head b ∷ (visits b args ++ App (length args) ∷ [])) ++ k) xs
   app-leads g t base source node head args b k xs sg here h =
       let e = here (valid-below g node.index h.0 h.1) in
-      let parts = app-valid g node.index h.0 head args sg e h.1 in
-      (h.0, parts.0, h.2, h.3, λ y m.
-        subst (λ js. Leads g ns to t base source js (xs ++ y ∷ [])) (sym (append_assoc (visits b args) (App (length args) ∷ []) k))
-        (visits-lead ns to g t base source b h.0 (App (length args) ∷ k) h.2 h.3 args (xs ++ y ∷ []) parts.1
-          (λ more w. (xs, y, more, append_assoc xs (y ∷ []) more, moved-length g ns to b h.0 args more w,
-            λ x a. h.4 x (app-moves g ns to node.index b h.0 head args y x more sg e m w a)))))
+      let parts = app-valid g node.index h.0 head args sg e h.1 in (
+        h.0,
+        parts.0,
+        h.2,
+        h.3,
+        λ y m.
+            subst (λ js. Leads g ns to t base source js (xs ++ y ∷ [])) (sym (append_assoc (visits b args) (App (length args) ∷ []) k))
+            (visits-lead ns to g t base source b h.0 (App (length args) ∷ k) h.2 h.3 args (xs ++ y ∷ []) parts.1
+            (λ more w. (
+              xs,
+              y,
+              more,
+              append_assoc xs (y ∷ []) more,
+              moved-length g ns to b h.0 args more w,
+              λ x a. h.4 x (app-moves g ns to node.index b h.0 head args y x more sg e m w a),
+            ))),
+      )
 
   pub app-falls : (g : Graph) (node head : TermId) (args : List TermId) (b : ℕ) → IsSound g → node_at g.nodes node.index ≡ Some (app_node head args) → work_size g (Visit head b ∷ (visits b args ++ App (length args) ∷ [])) < 2 * tree_size (tree g node.index)
   app-falls g node head args b sg e =

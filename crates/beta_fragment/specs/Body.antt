@@ -1,5 +1,5 @@
 -- The body of an abstraction.
-use Rattle.std.specs.Prelude.{◌≡◌, ℕ, Option, Some}
+use Rattle.std.specs.Prelude.{◌≡◌, ℕ, cond, nat_eq, Option, Some}
 use Rattle.level_terms.specs.declared.node.Node.{Node}
 use Rattle.level_terms.specs.declared.node.Node.TheVariants.{Lam}
 use Rattle.level_terms.specs.Graph.{Graph}
@@ -25,3 +25,7 @@ opened_reads g depth body s = open_with (body_reads g depth body) s
 abbrev pub IsLamAt : ℕ → Option Node → Type 0
 IsLamAt depth (Some (Lam d b)) = d ≡ depth
 IsLamAt depth _ = ⊥
+
+-- each level for its own name, but for one
+abbrev pub at_name : (level name : ℕ) → ℕ → Term
+at_name level name i = cond (nat_eq level i) (names name) (names i)

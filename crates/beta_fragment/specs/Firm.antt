@@ -1,5 +1,5 @@
 -- What is certain of a term at a glance.
-use Rattle.std.specs.Prelude.{◌≡◌, ℕ, false, List, Option, Some, None, reverse}
+use Rattle.std.specs.Prelude.{◌≡◌, ℕ, ◌<◌, false, List, Option, Some, None, reverse}
 use Rattle.level_terms.specs.declared.node.Node.{Node}
 use Rattle.level_terms.specs.declared.node.Node.TheVariants.{App}
 use Rattle.level_terms.specs.declared.node.TermId.{TermId}
@@ -54,11 +54,11 @@ EndsOtherwise g depth t = (env : ℕ → Term) → ArePlaces env → eta (read g
 abbrev pub IsOther : Graph → (depth t : ℕ) → Type 0
 IsOther g depth t = (env : ℕ → Term) → ArePlaces env → read g t (enter depth env) ≡ term.At (term.Bound 0) → ⊥
 
--- what a look at an argument says
-abbrev pub IsReadiness : Term → Readiness → Type 0
-IsReadiness u (Level k) = u ≡ names k
-IsReadiness u Unready = ready u ≡ false
-IsReadiness u Unknown = Unit {0}
+-- what a look at an argument that is valid at a depth says
+abbrev pub IsReadiness : (depth : ℕ) → Term → Readiness → Type 0
+IsReadiness depth u (Level k) = (u ≡ names k) × (k < depth)
+IsReadiness depth u Unready = ready u ≡ false
+IsReadiness depth u Unknown = Unit {0}
 
 -- the term is the node at the head, with its levels renamed, applied to the arguments, of which the first is the last in the list
 pub record IsSpine (g : Graph) (depth : ℕ) (u : Term) (head : ℕ) (levels : List ℕ) (args : List TermId) : Type 0 where

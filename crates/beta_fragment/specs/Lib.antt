@@ -4,3 +4,5 @@ pub mod HeadForm
 pub mod Moves
 pub mod Work
 pub mod Firm
+pub mod Spine
+pub mod Turn

@@ -10,7 +10,13 @@ use level_terms::{Heap, TermId};
 use std::alloc::{AllocError, Global};
 
 /// Whether both terms have equal readings. Answers `AllocError` on want of memory alone.
-pub fn same_term(alloc: Global, heap: &mut Heap, s: TermId, t: TermId, depth: usize) -> Result<bool, AllocError>
+pub fn same_term(
+    alloc: Global,
+    heap: &mut Heap,
+    s: TermId,
+    t: TermId,
+    depth: usize,
+) -> Result<bool, AllocError>
     requires left { IsValid heap.old s.index depth }
     requires right { IsValid heap.old t.index depth }
     ensures same { IfOk result (λ b. IsTrue b ↔ (read heap.old s.index names ≡ read heap.old t.index names)) }

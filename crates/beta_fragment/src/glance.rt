@@ -1,10 +1,11 @@
 //! What is certain of a term at a glance, without making a node.
 
-ghost use Rattle.std.specs.Prelude.{◌≡◌, ℕ, ◌<◌, ◌≤◌, length, IsTrue, None};
+ghost use Rattle.std.specs.Prelude.{◌≡◌, ℕ, ◌<◌, ◌≤◌, length, IsTrue, None, IfSome};
 ghost use Rattle.level_terms.specs.Graph.{node_at, value_in};
 ghost use Rattle.level_terms.specs.Valid.{IsValid};
 ghost use Rattle.level_terms.specs.Reading.{read};
 ghost use Rattle.beta_fragment.specs.Names.{names};
+ghost use Rattle.beta_fragment.specs.Moves.{IsVarOf, value_of};
 ghost use Rattle.beta_fragment.specs.Firm.{IsFirmNode, IsPlainNode, IsAbstractionNode, EndsOtherwise, IsOther, IsReadiness};
 
 use level_terms::{Heap, Node, TermId, VarId};
@@ -93,14 +94,28 @@ fn is_firm_head(heap: &Heap, t: TermId) -> bool
     }
 }
 
+/// Whether two levels differ.
+fn are_different(a: usize, b: usize) -> bool
+    ensures { IsTrue result → a ≡ b → ⊥ }
+{
+    a != b
+}
+
+/// Whether a depth isn't above another.
+fn is_within(a: usize, b: usize) -> bool
+    ensures { IsTrue result → a ≤ b }
+{
+    a <= b
+}
+
 /// Whether the node is certain not to be the name of the level.
 fn is_other(heap: &Heap, t: TermId, depth: usize) -> bool
-    requires valid { t.index < length heap.now.nodes }
+    requires { t.index < length heap.now.nodes }
     ensures { IsTrue result → (s : ℕ) → IsValid heap.now t.index s → IsOther heap.now depth t.index }
 {
     heap.is_sound();
     match heap.view(t) {
-        Node::Level(l) => *l != depth,
+        Node::Level(l) => are_different(*l, depth),
         Node::Lam { depth: made, .. } => *made <= depth || is_firm(heap, t),
         Node::Var(v) => heap.var_depth(*v) <= depth || is_firm(heap, t),
         Node::App { head, .. } => is_plain(heap, *head),
@@ -120,7 +135,7 @@ fn ends_otherwise(heap: &Heap, t: TermId, depth: usize) -> bool
         Node::Int(_) => true,
         Node::Str(_) => true,
         Node::Level(_) => true,
-        Node::Var(v) => heap.var_depth(*v) <= depth,
+        Node::Var(v) => is_within(heap.var_depth(*v), depth),
         Node::App { head, args } => match args.as_slice().last() {
             Some(last) => is_plain(heap, *head) && is_other(heap, *last, depth),
             None => false,
@@ -148,7 +163,7 @@ pub(crate) fn is_abstraction(heap: &Heap, t: TermId) -> bool
 /// Whether an argument is ready, as far as a look can say.
 pub(crate) fn looked_at(heap: &Heap, t: TermId) -> Readiness
     requires { t.index < length heap.now.nodes }
-    ensures { (s : ℕ) → IsValid heap.now t.index s → IsReadiness (read heap.now t.index names) result }
+    ensures { (s : ℕ) → IsValid heap.now t.index s → IsReadiness s (read heap.now t.index names) result }
 {
     heap.is_sound();
     let mut node = t;
@@ -164,17 +179,55 @@ pub(crate) fn looked_at(heap: &Heap, t: TermId) -> Readiness
 /// The same of a node that is no variable.
 fn looked_at_end(heap: &Heap, t: TermId) -> Readiness
     requires { t.index < length heap.now.nodes }
-    ensures { (s : ℕ) → IsValid heap.now t.index s → IsReadiness (read heap.now t.index names) result }
+    ensures { (s : ℕ) → IsValid heap.now t.index s → IsReadiness s (read heap.now t.index names) result }
 {
     heap.is_sound();
     match heap.view(t) {
         Node::Level(l) => Readiness::Level(*l),
         Node::App { head, .. } if is_plain(heap, *head) => Readiness::Unready,
         _ => {
-            if is_firm(heap, t) || is_abstraction(heap, t) {
+            if is_firm(heap, t) {
+                return Readiness::Unready;
+            }
+            if is_abstraction(heap, t) {
                 return Readiness::Unready;
             }
             Readiness::Unknown
         }
     }
+}
+
+/// The variable that the node, which is a variable's, stands for, where it has no value and is one
+/// over so many levels.
+fn open_var(heap: &Heap, t: TermId, count: usize) -> Option<VarId>
+    requires { t.index < length heap.now.nodes }
+    ensures { IfSome result (λ v. (v.index < length heap.now.depths) × (value_in heap.now.assigned v.index ≡ None) × IsVarOf v.index count (value_of heap.now t)) }
+{
+    heap.is_sound();
+    if let Node::Var(v) = heap.view(t) {
+        let v = *v;
+        if heap.var_depth(v) == count && is_free(heap, v) {
+            return Some(v);
+        }
+    }
+    None
+}
+
+/// The variable that an abstraction reads as by contraction alone: it has no value, and is applied
+/// to the levels below the abstraction's depth and to the abstracted ones.
+pub(crate) fn bare_var_of(heap: &Heap, t: TermId, made: usize) -> Option<VarId>
+    requires { t.index < length heap.now.nodes }
+    ensures { IfSome result (λ v. (v.index < length heap.now.depths) × (value_in heap.now.assigned v.index ≡ None) × IsVarOf v.index made (value_of heap.now t)) }
+{
+    heap.is_sound();
+    let mut node = t;
+    let mut count = made;
+    while let Node::Lam { depth, body } = heap.view(node) {
+        if *depth != count {
+            return None;
+        }
+        count = count.checked_add(1)?;
+        node = *body;
+    }
+    open_var(heap, node, count)
 }

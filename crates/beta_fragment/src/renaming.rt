@@ -38,7 +38,14 @@ enum Task {
 
 /// The term with each level below `from` renamed to the name that the list has for it. Answers
 /// `AllocError` on want of memory alone.
-pub fn lift(alloc: Global, heap: &mut Heap, t: TermId, from: usize, to: usize, names: &Names) -> Result<TermId, AllocError>
+pub fn lift(
+    alloc: Global,
+    heap: &mut Heap,
+    t: TermId,
+    from: usize,
+    to: usize,
+    names: &Names,
+) -> Result<TermId, AllocError>
     requires valid { IsValid heap.old t.index from }
     requires all { from ≤ length names.now }
     requires below { AllBelow names.now to }
@@ -92,7 +99,12 @@ fn made_app(heap: &mut Heap, head: TermId, args: &[TermId]) -> Result<TermId, Al
 }
 
 /// A node applied to nodes. An application is not the head of another.
-pub(crate) fn applied(alloc: Global, heap: &mut Heap, head: TermId, args: &[TermId]) -> Result<TermId, AllocError>
+pub(crate) fn applied(
+    alloc: Global,
+    heap: &mut Heap,
+    head: TermId,
+    args: &[TermId],
+) -> Result<TermId, AllocError>
     requires head { head.index < length heap.old.nodes }
     requires args { AllOlder (length heap.old.nodes) args.now }
     requires some { 0 < length args.now }
@@ -101,7 +113,11 @@ pub(crate) fn applied(alloc: Global, heap: &mut Heap, head: TermId, args: &[Term
     ensures grows { Grows heap.old heap.new [] [] }
 {
     heap.is_sound();
-    if let Node::App { head: inner, args: first } = heap.view(head) {
+    if let Node::App {
+        head: inner,
+        args: first,
+    } = heap.view(head)
+    {
         let inner = *inner;
         let all = joined(alloc, first.as_slice(), args)?;
         return made_app(heap, inner, all.as_slice());
@@ -110,10 +126,11 @@ pub(crate) fn applied(alloc: Global, heap: &mut Heap, head: TermId, args: &[Term
 }
 
 /// The abstraction of a body at a depth.
-fn made_lam(heap: &mut Heap, depth: usize, body: TermId) -> Result<TermId, AllocError>
+pub(crate) fn made_lam(heap: &mut Heap, depth: usize, body: TermId) -> Result<TermId, AllocError>
     requires { body.index < length heap.old.nodes }
     ensures lam { IfOk result (λ r. IsLamOf depth (value_of heap.old body) (value_of heap.new r)) }
     ensures head { IfOk result (λ r. IsHead (node_at heap.new.nodes r.index)) }
+    ensures node { IfOk result (λ r. node_at heap.new.nodes r.index ≡ Some (lam_node depth body)) }
     ensures there { IfOk result (λ r. r.index < length heap.new.nodes) }
     ensures grows { Grows heap.old heap.new [] [] }
 {
@@ -135,7 +152,7 @@ fn level_after(names: &[usize], base: usize, to: usize, level: usize) -> Result<
 }
 
 /// The sum, or `AllocError` past 64 bits.
-fn sum_of(a: usize, b: usize) -> Result<usize, AllocError>
+pub(crate) fn sum_of(a: usize, b: usize) -> Result<usize, AllocError>
     ensures { IfOk result (λ n. n ≡ a + b) }
 {
     a.checked_add(b).ok_or(AllocError)
@@ -197,7 +214,10 @@ fn visit_lam(
     let inner = base.min(depth);
     let raised = sum_of(depth - inner, to)?;
     work.push(Task::Lam { depth: raised })?;
-    work.push(Task::Visit { node: body, base: inner })?;
+    work.push(Task::Visit {
+        node: body,
+        base: inner,
+    })?;
     Ok(())
 }
 
@@ -208,7 +228,10 @@ fn push_visits(nodes: &[TermId], base: usize, work: &mut Vec<Task>) -> Result<()
     let mut i = nodes.len();
     while i > 0 {
         i -= 1;
-        work.push(Task::Visit { node: nodes[i], base })?;
+        work.push(Task::Visit {
+            node: nodes[i],
+            base,
+        })?;
     }
     Ok(())
 }
@@ -269,7 +292,7 @@ fn made_var(heap: &mut Heap, v: VarId) -> Result<TermId, AllocError>
 }
 
 /// The nodes of the levels below a depth, moved.
-fn moved_levels(
+pub(crate) fn moved_levels(
     alloc: Global,
     heap: &mut Heap,
     names: &[usize],
@@ -294,7 +317,14 @@ fn moved_levels(
 }
 
 /// A variable that has no value, applied to the levels below its depth, moved.
-fn moved_var(alloc: Global, heap: &mut Heap, names: &[usize], base: usize, to: usize, v: VarId) -> Result<TermId, AllocError>
+fn moved_var(
+    alloc: Global,
+    heap: &mut Heap,
+    names: &[usize],
+    base: usize,
+    to: usize,
+    v: VarId,
+) -> Result<TermId, AllocError>
     requires base { base ≤ length names.now }
     requires known { v.index < length heap.old.depths }
     requires free { value_in heap.old.assigned v.index ≡ None }
@@ -408,7 +438,16 @@ fn visit(
             }
             visit_lam(heap, names, to, node, base, depth, body, work)
         }
-        Node::App { head, args } => visit_app(heap, names, to, node, base, *head, args.as_slice(), work),
+        Node::App { head, args } => visit_app(
+            heap,
+            names,
+            to,
+            node,
+            base,
+            *head,
+            args.as_slice(),
+            work,
+        ),
         Node::Var(v) => {
             let v = *v;
             let depth = heap.var_depth(v);
@@ -443,7 +482,12 @@ fn make_lam(heap: &mut Heap, depth: usize, done: &mut Vec<TermId>) -> Result<(),
 }
 
 /// Does a task that makes an application.
-fn make_app(alloc: Global, heap: &mut Heap, args: usize, done: &mut Vec<TermId>) -> Result<(), AllocError>
+fn make_app(
+    alloc: Global,
+    heap: &mut Heap,
+    args: usize,
+    done: &mut Vec<TermId>,
+) -> Result<(), AllocError>
     requires some { args < length done.old.items }
     requires done { AllOlder (length heap.old.nodes) done.old.items }
     ensures steps { OnOk result ((ns : List ℕ) (to : ℕ) (work : List TaskOf) → Steps ns to (record { heap = heap.old; work = work ++ app_task args ∷ []; done = done.old.items }) (record { heap = heap.new; work = work; done = done.new.items })) }

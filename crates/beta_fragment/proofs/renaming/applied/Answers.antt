@@ -35,7 +35,7 @@ returns-in-App c =
     record {
       app = IfOk-weaker c.made_app.result _ _
           (λ r w. app-flattened c.args.heap.now c.args.head c.in-App.inner c.as_slice.result.now c.args.args.now (value_of c.made_app.new.heap r) c.is_sound.ensures here
-            (subst (λ (ts : List TermId). IsAppOf (value_of c.args.heap.now c.in-App.inner) (map (value_of c.args.heap.now) ts) (value_of c.made_app.new.heap r)) (c.as_slice-in-App.ensures.value ∙ c.in_ok-all.ensures) w))
+          (subst (λ (ts : List TermId). IsAppOf (value_of c.args.heap.now c.in-App.inner) (map (value_of c.args.heap.now) ts) (value_of c.made_app.new.heap r)) (c.as_slice-in-App.ensures.value ∙ c.in_ok-all.ensures) w))
           c.made_app.ensures.app;
       there = c.made_app.ensures.there;
       grows = c.made_app.ensures.grows;

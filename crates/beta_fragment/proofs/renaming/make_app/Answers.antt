@@ -35,8 +35,8 @@ returns-clause-steps c = λ ns to work.
     let slice = args-slice c.deref.result.now (c.len.result - c.args.args) ∙ ap (drop (c.len.result - c.args.args)) c.deref.ensures.value in
     subst (λ (ds : List TermId). Steps ns to (record { heap = c.args.heap.now; work = work ++ App c.args.args ∷ []; done = c.args.done.now.items }) (record { heap = c.applied.new.heap; work = work; done = ds })) (sym (c.in_ok-push.ensures.items ∙ ap (λ (ds : List TermId). ds ++ c.in_ok-r.r ∷ []) c.truncate.ensures.items))
     (subst (λ (ds : List TermId). Steps ns to (record { heap = c.args.heap.now; work = work ++ App c.args.args ∷ []; done = ds }) (record { heap = c.applied.new.heap; work = work; done = take (c.len.result - c.args.args - 1) c.args.done.now.items ++ c.in_ok-r.r ∷ [] })) (sym parts)
-      (steps-app ns to c.args.heap.now c.applied.new.heap work (take (c.len.result - c.args.args - 1) c.args.done.now.items) (drop (c.len.result - c.args.args) c.args.done.now.items) c.index-head.result.now c.in_ok-r.r c.args.args c.is_sound.ensures c.in_ok-r.ensures.grows front (args-count c.args.done.now.items c.len.result c.args.args long c.requires.some)
-        (subst (λ (ts : List TermId). IsAppOf (value_of c.args.heap.now c.index-head.result.now) (map (value_of c.args.heap.now) ts) (value_of c.applied.new.heap c.in_ok-r.r)) slice c.in_ok-r.ensures.app)))
+    (steps-app ns to c.args.heap.now c.applied.new.heap work (take (c.len.result - c.args.args - 1) c.args.done.now.items) (drop (c.len.result - c.args.args) c.args.done.now.items) c.index-head.result.now c.in_ok-r.r c.args.args c.is_sound.ensures c.in_ok-r.ensures.grows front (args-count c.args.done.now.items c.len.result c.args.args long c.requires.some)
+    (subst (λ (ts : List TermId). IsAppOf (value_of c.args.heap.now c.index-head.result.now) (map (value_of c.args.heap.now) ts) (value_of c.applied.new.heap c.in_ok-r.r)) slice c.in_ok-r.ensures.app)))
 
 pub returns-clause-done : goal.returns-clause-done
 returns-clause-done c =

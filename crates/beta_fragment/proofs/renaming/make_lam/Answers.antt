@@ -15,7 +15,7 @@ returns-clause-steps c = λ ns to work.
     let front = older-front (length c.args.heap.now.nodes) c.pop.new.self.items (c.in-Some.body ∷ []) (subst (AllOlder (length c.args.heap.now.nodes)) c.in-Some.ensures.items c.requires.done) in
     subst (λ (ds : List TermId). Steps ns to (record { heap = c.args.heap.now; work = work ++ Lam c.args.depth ∷ []; done = c.args.done.now.items }) (record { heap = c.made_lam.new.heap; work = work; done = ds })) (sym c.in_ok-push-in-Some.ensures.items)
     (subst (λ (ds : List TermId). Steps ns to (record { heap = c.args.heap.now; work = work ++ Lam c.args.depth ∷ []; done = ds }) (record { heap = c.made_lam.new.heap; work = work; done = c.pop.new.self.items ++ c.in_ok-r-in-Some.r ∷ [] })) (sym c.in-Some.ensures.items)
-      (steps-lam ns to c.args.heap.now c.made_lam.new.heap work c.pop.new.self.items c.in-Some.body c.in_ok-r-in-Some.r c.args.depth c.is_sound.ensures c.in_ok-r-in-Some.ensures.grows front c.in_ok-r-in-Some.ensures.lam))
+    (steps-lam ns to c.args.heap.now c.made_lam.new.heap work c.pop.new.self.items c.in-Some.body c.in_ok-r-in-Some.r c.args.depth c.is_sound.ensures c.in_ok-r-in-Some.ensures.grows front c.in_ok-r-in-Some.ensures.lam))
 
 pub returns-clause-done : goal.returns-clause-done
 returns-clause-done c =

@@ -28,17 +28,17 @@ loop-level-preserved c =
     let here : 0 + length (map (value_of c.made_level.new.heap) c.loop-level.args.items) ≡ c.loop-level.level = (let long = length-map c.loop-level.args.items (value_of c.made_level.new.heap) in let count = c.loop-level.invariant.count in omega (arith, long, count)) in
     record {
       levels =
-        subst (λ (ts : List TermId). AreLevelsOf c.args.names.now c.args.base c.args.to 0 (map (value_of c.made_level.new.heap) ts)) (sym c.in_ok-push.ensures.items)
-        (subst (λ (xs : List Value). AreLevelsOf c.args.names.now c.args.base c.args.to 0 xs) (sym (map-append (value_of c.made_level.new.heap) c.loop-level.args.items (c.in_ok-r.r ∷ [])))
+          subst (λ (ts : List TermId). AreLevelsOf c.args.names.now c.args.base c.args.to 0 (map (value_of c.made_level.new.heap) ts)) (sym c.in_ok-push.ensures.items)
+          (subst (λ (xs : List Value). AreLevelsOf c.args.names.now c.args.base c.args.to 0 xs) (sym (map-append (value_of c.made_level.new.heap) c.loop-level.args.items (c.in_ok-r.r ∷ [])))
           (levels-more c.args.names.now c.args.base c.args.to 0 (map (value_of c.made_level.new.heap) c.loop-level.args.items) (value_of c.made_level.new.heap c.in_ok-r.r)
-            (subst (λ (xs : List Value). AreLevelsOf c.args.names.now c.args.base c.args.to 0 xs) (sym kept) c.loop-level.invariant.levels)
-            (subst (λ l. IsLevelOf l (value_of c.made_level.new.heap c.in_ok-r.r)) (c.in_ok-new.ensures ∙ ap (moved_level c.args.names.now c.args.base c.args.to) (sym here)) c.in_ok-r.ensures.level)));
+          (subst (λ (xs : List Value). AreLevelsOf c.args.names.now c.args.base c.args.to 0 xs) (sym kept) c.loop-level.invariant.levels)
+          (subst (λ l. IsLevelOf l (value_of c.made_level.new.heap c.in_ok-r.r)) (c.in_ok-new.ensures ∙ ap (moved_level c.args.names.now c.args.base c.args.to) (sym here)) c.in_ok-r.ensures.level)));
       count =
-        let long = ap length c.in_ok-push.ensures.items ∙ length-append c.loop-level.args.items (c.in_ok-r.r ∷ []) in
-        let count = c.loop-level.invariant.count in
-        omega (arith, long, count);
+          let long = ap length c.in_ok-push.ensures.items ∙ length-append c.loop-level.args.items (c.in_ok-r.r ∷ []) in
+          let count = c.loop-level.invariant.count in
+          omega (arith, long, count);
       there =
-        subst (AllOlder (length c.made_level.new.heap.nodes)) (sym c.in_ok-push.ensures.items)
-        (older-append (length c.made_level.new.heap.nodes) c.loop-level.args.items (c.in_ok-r.r ∷ []) (older-grown c.loop-level.heap c.made_level.new.heap c.made_level.ensures.grows c.loop-level.args.items c.loop-level.invariant.there) (c.in_ok-r.ensures.there, tt));
+          subst (AllOlder (length c.made_level.new.heap.nodes)) (sym c.in_ok-push.ensures.items)
+          (older-append (length c.made_level.new.heap.nodes) c.loop-level.args.items (c.in_ok-r.r ∷ []) (older-grown c.loop-level.heap c.made_level.new.heap c.made_level.ensures.grows c.loop-level.args.items c.loop-level.invariant.there) (c.in_ok-r.ensures.there, tt));
       grows = grows-trans c.args.heap.now c.loop-level.heap c.made_level.new.heap [] [] [] c.loop-level.invariant.grows c.made_level.ensures.grows;
     }

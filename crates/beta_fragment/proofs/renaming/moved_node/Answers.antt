@@ -17,8 +17,8 @@ returns-in_err-work-clause-grows c = grows-refl c.args.heap.now []
 pub loop-task-init : goal.loop-task-init
 loop-task-init c = record {
   leads =
-    subst (λ (ws : List Task). IsLeading c.args.heap.now c.args.names.now c.args.to c.args.t.index (length c.args.names.now) (length c.args.names.now) (record { heap = c.args.heap.now; work = ws; done = c.new-done.result.items })) (sym c.in_ok-work.ensures)
-    (subst (λ (ds : List TermId). IsLeading c.args.heap.now c.args.names.now c.args.to c.args.t.index (length c.args.names.now) (length c.args.names.now) (record { heap = c.args.heap.now; work = Visit c.args.t (length c.args.names.now) ∷ []; done = ds })) (sym c.new-done.ensures.items)
+      subst (λ (ws : List Task). IsLeading c.args.heap.now c.args.names.now c.args.to c.args.t.index (length c.args.names.now) (length c.args.names.now) (record { heap = c.args.heap.now; work = ws; done = c.new-done.result.items })) (sym c.in_ok-work.ensures)
+      (subst (λ (ds : List TermId). IsLeading c.args.heap.now c.args.names.now c.args.to c.args.t.index (length c.args.names.now) (length c.args.names.now) (record { heap = c.args.heap.now; work = Visit c.args.t (length c.args.names.now) ∷ []; done = ds })) (sym c.new-done.ensures.items)
       (length c.args.names.now, c.requires.valid, omega arith, omega arith, λ x m. m));
   there = subst (AllOlder (length c.args.heap.now.nodes)) (sym c.new-done.ensures.items) tt;
   grows = grows-refl c.args.heap.now [];
@@ -56,13 +56,13 @@ unreachable-requires c =
     let no_work = empty-list c.loop-task.work.items (omega (arith, c.loop-task.work.ok, c.in_default.ensures.cases.0)) in
     let none = empty-list c.loop-task.done.items (omega (arith, c.loop-task.done.ok, c.in-None.ensures.cases.0)) in
     some-done c.args.heap.now c.loop-task.heap c.args.names.now c.args.to c.args.t.index (length c.args.names.now) (length c.args.names.now) c.loop-task.done.items
-      (subst (λ (ws : List Task). Leads c.args.heap.now c.args.names.now c.args.to c.args.t.index (length c.args.names.now) (length c.args.names.now) (reverse ws) (map (value_of c.loop-task.heap) c.loop-task.done.items)) no_work c.loop-task.invariant.leads) none
+    (subst (λ (ws : List Task). Leads c.args.heap.now c.args.names.now c.args.to c.args.t.index (length c.args.names.now) (length c.args.names.now) (reverse ws) (map (value_of c.loop-task.heap) c.loop-task.done.items)) no_work c.loop-task.invariant.leads) none
 
 pub returns-clause-moves : goal.returns-clause-moves
 returns-clause-moves c =
     let no_work = empty-list c.loop-task.work.items (omega (arith, c.loop-task.work.ok, c.in_default.ensures.cases.0)) in
     last-leads c.args.heap.now c.loop-task.heap c.args.names.now c.args.to c.args.t.index (length c.args.names.now) (length c.args.names.now) c.loop-task.done.items c.pop-2.new.self.items c.in-Some-pop.r c.in-Some-pop.ensures.items
-      (subst (λ (ws : List Task). Leads c.args.heap.now c.args.names.now c.args.to c.args.t.index (length c.args.names.now) (length c.args.names.now) (reverse ws) (map (value_of c.loop-task.heap) c.loop-task.done.items)) no_work c.loop-task.invariant.leads)
+    (subst (λ (ws : List Task). Leads c.args.heap.now c.args.names.now c.args.to c.args.t.index (length c.args.names.now) (length c.args.names.now) (reverse ws) (map (value_of c.loop-task.heap) c.loop-task.done.items)) no_work c.loop-task.invariant.leads)
 
 pub returns-clause-there : goal.returns-clause-there
 returns-clause-there c = older-last (length c.loop-task.heap.nodes) c.pop-2.new.self.items c.in-Some-pop.r (subst (AllOlder (length c.loop-task.heap.nodes)) c.in-Some-pop.ensures.items c.loop-task.invariant.there)

@@ -29,8 +29,8 @@ returns-clause-moved c =
     let long : length (map (value_of c.moved_levels.new.heap) c.in_ok-args.args.items) ≡ slice_index c.args.heap.now.depths c.args.v.index = length-map c.in_ok-args.args.items (value_of c.moved_levels.new.heap) ∙ c.in_ok-args.ensures.count ∙ sym depth in
     IfOk-weaker c.made_app.result _ _
     (λ r w. var-applied c.args.names.now c.args.base c.args.to c.args.v.index (slice_index c.args.heap.now.depths c.args.v.index) (value_of c.moved_levels.new.heap c.in_ok-head.head) (value_of c.made_app.new.heap r) (map (value_of c.moved_levels.new.heap) c.in_ok-args.args.items)
-      (subst (λ (x : Value). IsVarOf c.args.v.index 0 x) (sym same) c.in_ok-head.ensures.open) c.in_ok-args.ensures.levels long
-      (subst (λ (ts : List TermId). IsAppOf (value_of c.moved_levels.new.heap c.in_ok-head.head) (map (value_of c.moved_levels.new.heap) ts) (value_of c.made_app.new.heap r)) c.as_slice.ensures.value w))
+    (subst (λ (x : Value). IsVarOf c.args.v.index 0 x) (sym same) c.in_ok-head.ensures.open) c.in_ok-args.ensures.levels long
+    (subst (λ (ts : List TermId). IsAppOf (value_of c.moved_levels.new.heap c.in_ok-head.head) (map (value_of c.moved_levels.new.heap) ts) (value_of c.made_app.new.heap r)) c.as_slice.ensures.value w))
     c.made_app.ensures.app
 
 pub returns-clause-grows : goal.returns-clause-grows

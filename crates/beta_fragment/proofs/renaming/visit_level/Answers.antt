@@ -18,10 +18,10 @@ pub returns-clause-steps : goal.returns-clause-steps
 returns-clause-steps c = λ work.
     let ns = c.args.names.now in
     subst (λ (ds : List TermId). Steps c.args.names.now c.args.to (record { heap = c.args.heap.now; work = work ++ Visit c.args.node c.args.base ∷ []; done = c.args.done.now.items }) (record { heap = c.made_level.new.heap; work = work; done = ds }))
-      (sym c.in_ok-push.ensures.items)
-      (steps-done c.args.names.now c.args.to c.args.heap.now c.made_level.new.heap work c.args.done.now.items c.args.node c.in_ok-r.r c.args.base c.is_sound.ensures c.in_ok-r.ensures.grows c.requires.done
-        (λ g s sg gr v low few. level-moves g c.args.names.now c.args.to c.args.node.index c.args.base s c.args.level (value_of c.made_level.new.heap c.in_ok-r.r) sg c.requires.below (node-before g c.args.heap.now gr c.args.node.index _ (valid-below g c.args.node.index s v) c.requires.here) v low few
-          (subst (λ l. IsLevelOf l (value_of c.made_level.new.heap c.in_ok-r.r)) c.in_ok-new.ensures c.in_ok-r.ensures.level)))
+    (sym c.in_ok-push.ensures.items)
+    (steps-done c.args.names.now c.args.to c.args.heap.now c.made_level.new.heap work c.args.done.now.items c.args.node c.in_ok-r.r c.args.base c.is_sound.ensures c.in_ok-r.ensures.grows c.requires.done
+    (λ g s sg gr v low few. level-moves g c.args.names.now c.args.to c.args.node.index c.args.base s c.args.level (value_of c.made_level.new.heap c.in_ok-r.r) sg c.requires.below (node-before g c.args.heap.now gr c.args.node.index _ (valid-below g c.args.node.index s v) c.requires.here) v low few
+    (subst (λ l. IsLevelOf l (value_of c.made_level.new.heap c.in_ok-r.r)) c.in_ok-new.ensures c.in_ok-r.ensures.level)))
 
 pub returns-clause-done : goal.returns-clause-done
 returns-clause-done c =
