@@ -3,6 +3,7 @@ pub mod OpenedLemmas
 pub mod NameLemmas
 pub mod NumberLemmas
 pub mod FormLemmas
+pub mod ChainLemmas
 pub mod StepLemmas
 pub mod LookLemmas
 pub mod PrintLemmas

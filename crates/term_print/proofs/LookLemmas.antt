@@ -12,7 +12,7 @@ use Rattle.level_terms.specs.Reading.{read, enter}
 use Rattle.level_terms.specs.Sound.{IsSound}
 use Rattle.level_terms.specs.Valid.{valid, IsValid}
 use Rattle.level_terms.proofs.NodeLemmas.{nodes_read}
-use Rattle.level_terms.proofs.ValidLemmas.{nodes_valid}
+use Rattle.level_terms.proofs.ValidLemmas.{nodes_valid, growth_keeps_valid}
 use Rattle.ref_terms.specs.terms.Term as term
 use Rattle.ref_terms.specs.terms.Term.{Term, Head, At}
 use Rattle.ref_terms.specs.terms.Index.{sub, first}
@@ -156,3 +156,13 @@ pub push_step : (old work new rest : List Piece) (p : Piece) (all : List Piece) 
 push_step old work new rest p all h e k =
     e ∙ ap (λ (ws : List Piece). ws ++ p ∷ []) h ∙ append_assoc old (reverse rest) (p ∷ [])
     ∙ ap (λ (ws : List Piece). old ++ ws) (sym (reverse-append (p ∷ []) rest) ∙ ap reverse (sym k))
+
+-- an abstraction in a heap that gained nodes
+pub lam-grown : (g h : Graph) → IsSound g → Grows g h [] [] → (t depth : ℕ) → ReadsAsLam g t depth → ReadsAsLam h t depth
+lam-grown g h s gr t depth w =
+    let below = valid-below g t depth w.valid in
+    record {
+      node = subst IsLam (sym (node-stays g h gr t below)) w.node;
+      valid = growth_keeps_valid g h [] [] t depth s gr below w.valid;
+      reads = subst (λ (r : (ℕ → Term) → Term). IsAbstraction (r names)) (sym (grown-reads g h s gr t below)) w.reads;
+    }

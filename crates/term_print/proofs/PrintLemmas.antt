@@ -21,7 +21,7 @@ use Rattle.term_print.proofs.StepLemmas.{pushed-one}
 use Rattle.level_terms.proofs.GrowthLemmas.{grows-refl, grows-trans}
 
 -- a term at its own depth
-pub line-parts : (table : List (List ℕ)) (g : Graph) (t : TermId) (depth : ℕ) → IsValid g t.index depth → term_line table (read g t.index names) ≡ work_parts table depth g (Top t depth ∷ [])
+pub line-parts : (table : List (List ℕ)) (g : Graph) (t : TermId) (depth : ℕ) → IsValid g t.index depth → term_line table (read g t.index names) ≡ work_parts table depth g (Top t depth 0 ∷ [])
 line-parts table g t depth v =
     opened-base table depth g t.index v
     ∙ ap (λ (d : ℕ). opened_parts table depth (read g t.index names) text.top d) (let e : 0 ≡ depth - depth = omega arith in e)
@@ -45,12 +45,12 @@ pub none-left : (work : List Piece) → length work ≡ 0 → work ≡ []
 none-left [] e = refl
 none-left (p ∷ work) e = absurd (omega (arith, e))
 
-pub started : (table : List (List ℕ)) (depth : ℕ) (g : Graph) (t : TermId) (work : List Piece) (p : Page) → work ≡ Top t depth ∷ [] → IsValid g t.index depth → Printing table depth g (work_parts table depth g (Top t depth ∷ [])) p g (reverse work) p
+pub started : (table : List (List ℕ)) (depth : ℕ) (g : Graph) (t : TermId) (work : List Piece) (p : Page) → work ≡ Top t depth 0 ∷ [] → IsValid g t.index depth → Printing table depth g (work_parts table depth g (Top t depth 0 ∷ [])) p g (reverse work) p
 started table depth g t work p e v =
-    subst (λ (ws : List Piece). Printing table depth g (work_parts table depth g (Top t depth ∷ [])) p g (reverse ws) p) (sym e)
+    subst (λ (ws : List Piece). Printing table depth g (work_parts table depth g (Top t depth 0 ∷ [])) p g (reverse ws) p) (sym e)
     record {
-      prints = prints-none p (work_parts table depth g (Top t depth ∷ []));
-      pieces = (record { valid = v; deep = omega arith }, tt);
+      prints = prints-none p (work_parts table depth g (Top t depth 0 ∷ []));
+      pieces = ((record { valid = v; deep = omega arith }, tt), tt);
       grows = grows-refl g [];
     }
 
@@ -65,19 +65,19 @@ goes_on table depth first ps old g h work rest piece now new left e w l gr = rec
 }
 
 module _ (table : List (List ℕ)) (depth : ℕ) (first : Graph) (t : TermId) (v : IsValid first t.index depth) (old : Page) (g : Graph) (work : List Piece) where
-  pub stopped-line : (rest : List Piece) (piece : Piece) (now : Page) (new : List ℕ) → work ≡ rest ++ piece ∷ [] → Printing table depth first (work_parts table depth first (Top t depth ∷ [])) old g (reverse work) now
+  pub stopped-line : (rest : List Piece) (piece : Piece) (now : Page) (new : List ℕ) → work ≡ rest ++ piece ∷ [] → Printing table depth first (work_parts table depth first (Top t depth 0 ∷ [])) old g (reverse work) now
       → Stops now (work_parts table depth g (piece ∷ reverse rest)) new → GainsFront (numbered old.seen (term_line table (read first t.index names))) old.text new
   stopped-line rest piece now new e w s =
       subst (λ (ps : List Part). GainsFront (numbered old.seen ps) old.text new) (sym (line-parts table first t depth v))
-      (stops-later old now (work_parts table depth first (Top t depth ∷ [])) (work_parts table depth g (piece ∷ reverse rest)) new
-        (subst (λ (ws : List Piece). Prints old (work_parts table depth first (Top t depth ∷ [])) now (work_parts table depth g ws)) (pushed-one rest work piece e) w.prints) s)
+      (stops-later old now (work_parts table depth first (Top t depth 0 ∷ [])) (work_parts table depth g (piece ∷ reverse rest)) new
+        (subst (λ (ws : List Piece). Prints old (work_parts table depth first (Top t depth 0 ∷ [])) now (work_parts table depth g ws)) (pushed-one rest work piece e) w.prints) s)
 
-  pub printed-line : (now : Page) → work ≡ [] → Printing table depth first (work_parts table depth first (Top t depth ∷ [])) old g (reverse work) now → now.text ≡ old.text ++ numbered old.seen (term_line table (read first t.index names))
+  pub printed-line : (now : Page) → work ≡ [] → Printing table depth first (work_parts table depth first (Top t depth 0 ∷ [])) old g (reverse work) now → now.text ≡ old.text ++ numbered old.seen (term_line table (read first t.index names))
   printed-line now e w =
-      printed-text old now (work_parts table depth first (Top t depth ∷ [])) (work_parts table depth g (reverse work)) (ap (λ (ws : List Piece). work_parts table depth g (reverse ws)) e) w.prints
+      printed-text old now (work_parts table depth first (Top t depth 0 ∷ [])) (work_parts table depth g (reverse work)) (ap (λ (ws : List Piece). work_parts table depth g (reverse ws)) e) w.prints
       ∙ ap (λ (ps : List Part). old.text ++ numbered old.seen ps) (sym (line-parts table first t depth v))
 
-  pub seen-line : (now : Page) → work ≡ [] → Printing table depth first (work_parts table depth first (Top t depth ∷ [])) old g (reverse work) now → now.seen ≡ seen_after old.seen (term_line table (read first t.index names))
+  pub seen-line : (now : Page) → work ≡ [] → Printing table depth first (work_parts table depth first (Top t depth 0 ∷ [])) old g (reverse work) now → now.seen ≡ seen_after old.seen (term_line table (read first t.index names))
   seen-line now e w =
-      printed-seen old now (work_parts table depth first (Top t depth ∷ [])) (work_parts table depth g (reverse work)) (ap (λ (ws : List Piece). work_parts table depth g (reverse ws)) e) w.prints
+      printed-seen old now (work_parts table depth first (Top t depth 0 ∷ [])) (work_parts table depth g (reverse work)) (ap (λ (ws : List Piece). work_parts table depth g (reverse ws)) e) w.prints
       ∙ ap (λ (ps : List Part). seen_after old.seen ps) (sym (line-parts table first t depth v))

@@ -24,6 +24,7 @@ use Rattle.beta_fragment.specs.HeadForm.{rigid_head, all_read, AllValidAt, IsAbs
 use Rattle.beta_fragment.specs.declared.answer.RigidHead.{RigidHead}
 use Rattle.beta_fragment.specs.declared.answer.RigidHead.TheVariants.{Con, Int, Str, Level}
 use Rattle.beta_fragment.proofs.ReadLemmas.{valid-below, grown-reads}
+use Rattle.term_print.specs.Chains.{AreKept}
 use Rattle.term_print.specs.Opened.{head_part, under_binder, parts, name_bytes, opened_parts}
 use Rattle.term_print.specs.Heads.{rigid_bytes, binder_bytes, infix_bytes}
 use Rattle.term_print.specs.Written.{Page, Prints, Stops, GainsFront}
@@ -31,6 +32,7 @@ use Rattle.term_print.specs.Pieces.{infix_head, IsPrefixed, is_bare, argument_pa
 use Rattle.term_print.specs.declared.piece.Piece.{Piece}
 use Rattle.term_print.specs.declared.piece.Piece.TheVariants.{Close, Infix, Top, Inner, Argument}
 use Rattle.term_print.proofs.WrittenLemmas.{prints-same, prints-trans, prints-bytes, prints-free, prints-none, stops-now, stops-later, stops-same, stops-bytes}
+use Rattle.term_print.proofs.ChainLemmas.{kept-grown}
 use Rattle.term_print.proofs.OpenedLemmas.{parts-opened}
 use Rattle.term_print.proofs.FormLemmas.{head-top, infix-top, redex-top, inner-form}
 
@@ -55,21 +57,21 @@ module _ (g h : Graph) (s : IsSound g) (gr : Grows g h [] []) where
   piece-grown : (base : ℕ) (p : Piece) → IsPiece base g p → IsPiece base h p
   piece-grown base Close w = tt
   piece-grown base (Infix c) w = tt
-  piece-grown base (Top t depth) w = node-grown base t depth w
+  piece-grown base (Top t depth kept) w = (node-grown base t depth w.0, kept-grown g h s gr kept t.index w.1)
   piece-grown base (Inner t depth) w = node-grown base t depth w
   piece-grown base (Argument t depth) w = node-grown base t depth w
 
   piece_parts-grown : (table : List (List ℕ)) (base : ℕ) (p : Piece) → IsPiece base g p → piece_parts table base h p ≡ piece_parts table base g p
   piece_parts-grown table base Close w = refl
   piece_parts-grown table base (Infix c) w = refl
-  piece_parts-grown table base (Top t depth) w = parts-grown table base t depth text.top w
+  piece_parts-grown table base (Top t depth kept) w = parts-grown table base t depth text.top w.0
   piece_parts-grown table base (Inner t depth) w = parts-grown table base t depth text.inner w
   piece_parts-grown table base (Argument t depth) w = ap (λ (ps : List Part). space ∷ ps) (parts-grown table base t depth text.inner w)
 
   piece_size-grown : (base : ℕ) (p : Piece) → IsPiece base g p → piece_size base h p ≡ piece_size base g p
   piece_size-grown base Close w = refl
   piece_size-grown base (Infix c) w = refl
-  piece_size-grown base (Top t depth) w = ap (λ (ps : List Part). 2 * length ps) (parts-grown [] base t depth text.top w)
+  piece_size-grown base (Top t depth kept) w = ap (λ (ps : List Part). 2 * length ps) (parts-grown [] base t depth text.top w.0)
   piece_size-grown base (Inner t depth) w = ap (λ (ps : List Part). 2 * length ps) (parts-grown [] base t depth text.inner w)
   piece_size-grown base (Argument t depth) w = ap (λ (ps : List Part). 1 + 2 * length ps) (parts-grown [] base t depth text.inner w)
 
@@ -179,17 +181,17 @@ abstraction-is (At h) w = absurd w
 abstraction-is (term.App f a) w = absurd w
 
 -- the front of an abstraction is written, and its body is left
-pub lam-leaves : (table : List (List ℕ)) (base : ℕ) (g h : Graph) → IsSound g → Grows g h [] [] → (depth : ℕ) (rest : List Piece) → base ≤ depth → ArePieces base g rest → (u b : Term) → u ≡ term.Lam b → (node : TermId)
-    → IsValid h node.index (depth + 1) → read h node.index names ≡ sub (first (names depth)) b → (t seen : List ℕ)
-    → LeavesTerm table base text.top g u depth rest (page t seen) h (page (t ++ binder_bytes (depth - base)) seen) (Top node (depth + 1) ∷ rest)
-lam-leaves table base g h s gr depth rest deep there u b e node v r t seen =
+pub lam-leaves : (table : List (List ℕ)) (base : ℕ) (g h : Graph) → IsSound g → Grows g h [] [] → (depth : ℕ) (rest : List Piece) → base ≤ depth → ArePieces base g rest → (u b : Term) → u ≡ term.Lam b → (node : TermId) (kept : ℕ)
+    → AreKept h node.index kept → IsValid h node.index (depth + 1) → read h node.index names ≡ sub (first (names depth)) b → (t seen : List ℕ)
+    → LeavesTerm table base text.top g u depth rest (page t seen) h (page (t ++ binder_bytes (depth - base)) seen) (Top node (depth + 1) kept ∷ rest)
+lam-leaves table base g h s gr depth rest deep there u b e node kept k v r t seen =
     record {
       prints = prints-same (page t seen) (page (t ++ binder_bytes (depth - base)) seen) _ _ _ _
         (ap (λ (x : Term). opened_parts table base x text.top (depth - base) ++ work_parts table base g rest) e
         ∙ ap (λ (ps : List Part). ps ++ work_parts table base g rest) (lam-parts table base depth b deep))
         (ap₂ (λ (x : Term) (ps : List Part). opened_parts table base x text.top (depth + 1 - base) ++ ps) (sym r) (sym (work-grown g h s gr table base rest there)))
         (prints-bytes t seen (binder_bytes (depth - base)) (opened_parts table base (sub (first (names depth)) b) text.top (depth + 1 - base) ++ work_parts table base g rest));
-      pieces = (record { valid = v; deep = omega (arith, deep) }, pieces-grown g h s gr base rest there);
+      pieces = ((record { valid = v; deep = omega (arith, deep) }, k), pieces-grown g h s gr base rest there);
       falls =
         let long = ap (λ (x : Term). length (opened_parts [] base x text.top (depth - base))) e ∙ ap (λ (ps : List Part). length ps) (lam-parts [] base depth b deep) in
         let body = ap (λ (x : Term). length (opened_parts [] base x text.top (depth + 1 - base))) r in
@@ -324,15 +326,15 @@ pushed-all old new ps e = ap reverse e ∙ reverse-append old (reverse ps) ∙ a
 pub pushed-three : (old new : List Piece) (a b c : Piece) → new ≡ old ++ a ∷ b ∷ c ∷ [] → reverse new ≡ c ∷ b ∷ a ∷ reverse old
 pushed-three old new a b c e = ap reverse e ∙ reverse-append old (a ∷ b ∷ c ∷ [])
 
-pub lam-printed : (table : List (List ℕ)) (base : ℕ) (g h : Graph) → IsSound g → Grows g h [] [] → (depth : ℕ) (work new : List Piece) → base ≤ depth → ArePieces base g (reverse work) → (u : Term) → IsAbstraction u → (node : TermId) (inside : ℕ) → inside ≡ depth + 1
-    → IsValid h node.index (depth + 1) → ((b : Term) → u ≡ term.Lam b → read h node.index names ≡ sub (first (names depth)) b) → new ≡ work ++ Top node inside ∷ [] → (t t' seen : List ℕ) → t' ≡ t ++ binder_bytes (depth - base)
+pub lam-printed : (table : List (List ℕ)) (base : ℕ) (g h : Graph) → IsSound g → Grows g h [] [] → (depth : ℕ) (work new : List Piece) → base ≤ depth → ArePieces base g (reverse work) → (u : Term) → IsAbstraction u → (node : TermId) (inside kept : ℕ) → inside ≡ depth + 1
+    → AreKept h node.index kept → IsValid h node.index (depth + 1) → ((b : Term) → u ≡ term.Lam b → read h node.index names ≡ sub (first (names depth)) b) → new ≡ work ++ Top node inside kept ∷ [] → (t t' seen : List ℕ) → t' ≡ t ++ binder_bytes (depth - base)
     → LeavesTerm table base text.top g u depth (reverse work) (page t seen) h (page t' seen) (reverse new)
-lam-printed table base g h s gr depth work new deep there u w node inside i v r e t t' seen q =
+lam-printed table base g h s gr depth work new deep there u w node inside kept i k v r e t t' seen q =
     let is = abstraction-is u w in
-    leaves-same table base (page t seen) _ _ h (page (t ++ binder_bytes (depth - base)) seen) (page t' seen) (Top node (depth + 1) ∷ reverse work) (reverse new)
+    leaves-same table base (page t seen) _ _ h (page (t ++ binder_bytes (depth - base)) seen) (page t' seen) (Top node (depth + 1) kept ∷ reverse work) (reverse new)
     (ap (λ (x : List ℕ). page x seen) q)
-    (pushed-one work new (Top node inside) e ∙ ap (λ (d : ℕ). Top node d ∷ reverse work) i)
-    (lam-leaves table base g h s gr depth (reverse work) deep there u is.0 is.1 node v (r is.0 is.1) t seen)
+    (pushed-one work new (Top node inside kept) e ∙ ap (λ (d : ℕ). Top node d kept ∷ reverse work) i)
+    (lam-leaves table base g h s gr depth (reverse work) deep there u is.0 is.1 node kept k v (r is.0 is.1) t seen)
 
 pub rigid-printed : (table : List (List ℕ)) (base : ℕ) (g : Graph) (depth : ℕ) (work new : List Piece) → base ≤ depth → ArePieces base g (reverse work) → (k : RigidHead) (ts : List TermId) → ((us : List Term) → length us ≡ length ts → IsPrefixed (rigid_head k) us) → AllValidAt g ts depth
     → new ≡ work ++ reverse (argument_pieces depth ts) → (t t' seen : List ℕ) → t' ≡ t ++ rigid_bytes table base k

@@ -118,3 +118,7 @@ stops-unchanged p ps t e = subst (Stops p ps) (sym e) (stops-now p ps)
 pub if-ok : {T E : Type 0} {P Q : T → Type 0} → (r : Result T E) → ((x : T) → P x → Q x) → IfOk r P → IfOk r Q
 if-ok (Ok x) f p = f x p
 if-ok (Err e) f p = tt
+
+pub if-ok_two : {T E : Type 0} {P Q R : T → Type 0} → (r : Result T E) → ((x : T) → P x → Q x → R x) → IfOk r P → IfOk r Q → IfOk r R
+if-ok_two (Ok x) f p q = f x p q
+if-ok_two (Err e) f p q = tt

@@ -14,6 +14,7 @@ use Rattle.beta_fragment.specs.Names.{names}
 use Rattle.beta_fragment.specs.HeadForm.{rigid_head, all_read}
 use Rattle.beta_fragment.specs.declared.answer.Whnf.{Whnf}
 use Rattle.beta_fragment.specs.declared.answer.Whnf.TheVariants.{Lam, Rigid, Flex, Redex}
+use Rattle.term_print.specs.Chains.{AreKept}
 use Rattle.term_print.specs.Opened.{parts, opened_parts}
 use Rattle.term_print.specs.Written.{Page, Prints, Stops}
 use Rattle.term_print.specs.declared.piece.Piece.{Piece}
@@ -48,7 +49,7 @@ node_parts table base g t depth form = opened_parts table base (read g t.index n
 abbrev pub piece_parts : List (List ℕ) → (base : ℕ) → Graph → Piece → List Part
 piece_parts table base g Close = Bytes (41 ∷ []) ∷ []
 piece_parts table base g (Infix c) = space ∷ Bytes (symbol table c.0) ∷ space ∷ []
-piece_parts table base g (Top t depth) = node_parts table base g t depth text.top
+piece_parts table base g (Top t depth kept) = node_parts table base g t depth text.top
 piece_parts table base g (Inner t depth) = node_parts table base g t depth text.inner
 piece_parts table base g (Argument t depth) = space ∷ node_parts table base g t depth text.inner
 
@@ -62,11 +63,11 @@ pub record IsNode (base : ℕ) (g : Graph) (t : TermId) (depth : ℕ) : Type 0 w
   pub valid : IsValid g t.index depth
   pub deep : base ≤ depth
 
--- so is the term of a piece
+-- so is the term of a piece, and the abstractions that are known to stay do
 abbrev pub IsPiece : (base : ℕ) → Graph → Piece → Type 0
 IsPiece base g Close = Unit {0}
 IsPiece base g (Infix c) = Unit {0}
-IsPiece base g (Top t depth) = IsNode base g t depth
+IsPiece base g (Top t depth kept) = IsNode base g t depth × AreKept g t.index kept
 IsPiece base g (Inner t depth) = IsNode base g t depth
 IsPiece base g (Argument t depth) = IsNode base g t depth
 
@@ -79,7 +80,7 @@ ArePieces base g (p ∷ ps) = IsPiece base g p × ArePieces base g ps
 abbrev pub piece_size : (base : ℕ) → Graph → Piece → ℕ
 piece_size base g Close = 1
 piece_size base g (Infix c) = 1
-piece_size base g (Top t depth) = 2 * length (node_parts [] base g t depth text.top)
+piece_size base g (Top t depth kept) = 2 * length (node_parts [] base g t depth text.top)
 piece_size base g (Inner t depth) = 2 * length (node_parts [] base g t depth text.inner)
 piece_size base g (Argument t depth) = 1 + 2 * length (node_parts [] base g t depth text.inner)
 

@@ -4,6 +4,7 @@
 //! head is looked at once, and each byte is written once.
 #![tactic(auto)]
 
+mod chain;
 mod head;
 mod namer;
 mod piece;

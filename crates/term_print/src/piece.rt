@@ -10,8 +10,13 @@ pub(crate) enum Piece {
     Close,
     /// An infix constant with a space on each side.
     Infix(Sym),
-    /// A term in its top form.
-    Top { node: TermId, depth: usize },
+    /// A term in its top form. So many nodes from this one on, each the body of the one before, are
+    /// known to be of abstractions that stay.
+    Top {
+        node: TermId,
+        depth: usize,
+        kept: usize,
+    },
     /// A term in its inner form.
     Inner { node: TermId, depth: usize },
     /// A space, and a term in its inner form.

@@ -20,10 +20,14 @@ use std::alloc::{AllocError, Global};
 
 /// The list of one term.
 fn first_piece(alloc: Global, node: TermId, depth: usize) -> Result<Vec<Piece>, AllocError>
-    ensures { IfOk result (λ work. work.items ≡ top_piece node depth ∷ []) }
+    ensures { IfOk result (λ work. work.items ≡ top_piece node depth 0 ∷ []) }
 {
     let mut work = Vec::new(alloc);
-    work.push(Piece::Top { node, depth })?;
+    work.push(Piece::Top {
+        node,
+        depth,
+        kept: 0,
+    })?;
     Ok(work)
 }
 

@@ -14,9 +14,11 @@ ghost use Rattle.ref_terms.specs.texts.Text.{top, inner, infix_word};
 ghost use Rattle.beta_fragment.specs.Names.{names};
 ghost use Rattle.beta_fragment.specs.HeadForm.{IsHeadForm, ReadsAsLam, FirstUnready, AllValidAt, rigid_head, all_read};
 ghost use Rattle.term_print.specs.Pieces.{IsNode, ArePieces, Leaves, LeavesTerm, StopsTerm, page, piece_parts, piece_size, work_parts, work_size, argument_pieces, seen_term, is_bare as bare, IsPrefixed};
+ghost use Rattle.term_print.specs.Chains.{AreKept, BodyIsKept};
 ghost use Rattle.term_print.specs.Written.{Stops};
 ghost use Rattle.term_print.specs.declared.piece.Piece.TheVariants.{Inner as inner_piece, Infix as infix_piece};
 
+use crate::chain::kept_below;
 use crate::head::{is_infix, write_binder, write_head, write_infix, write_variable};
 use crate::namer::Namer;
 use crate::piece::Piece;
@@ -121,8 +123,53 @@ fn body_copied(alloc: Global, heap: &mut Heap, lam: TermId, depth: usize) -> Res
     contract(alloc, heap, lam, name, depth + 1)
 }
 
-/// Writes the front of an abstraction, and leaves its body.
+/// So many nodes from the body on that are known to stay: those below the abstraction, where the
+/// body is its own.
+fn kept_from(heap: &Heap, lam: TermId, body: TermId, kept: usize) -> usize
+    requires there { lam.index < length heap.now.nodes }
+    requires kept { BodyIsKept heap.now lam kept }
+    ensures { AreKept heap.now body.index result }
+{
+    match heap.view(lam) {
+        Node::Lam { body: own, .. } if own.index == body.index => kept,
+        _ => 0,
+    }
+}
+
+/// Writes the front of an abstraction, and leaves its body. So many abstractions below it are known
+/// to stay.
 fn write_lam(
+    alloc: Global,
+    heap: &mut Heap,
+    base: usize,
+    lam: TermId,
+    kept: usize,
+    depth: usize,
+    work: &mut Vec<Piece>,
+    out: &mut ByteText,
+) -> Result<(), AllocError>
+    requires lam { ReadsAsLam heap.old lam.index depth }
+    requires kept { BodyIsKept heap.old lam kept }
+    requires deep { base ≤ depth }
+    requires pieces { ArePieces base heap.old (reverse work.old.items) }
+    ensures prints { OnOk result ((table : List (List ℕ)) (seen : List ℕ) → LeavesTerm table base top heap.old (read heap.old lam.index names) depth (reverse work.old.items) (page out.old seen) heap.new (page out.new seen) (reverse work.new.items)) }
+    ensures err { OnErr result (out.new ≡ out.old) }
+    ensures grows { Grows heap.old heap.new [] [] }
+{
+    heap.is_sound();
+    let inside = next_depth(depth)?;
+    let node = body_at(alloc, heap, lam, depth)?;
+    let kept = kept_from(heap, lam, node, kept);
+    work.push(Piece::Top {
+        node,
+        depth: inside,
+        kept,
+    })?;
+    write_binder(alloc, depth - base, out)
+}
+
+/// The same of an abstraction that was seen just now.
+fn write_seen_lam(
     alloc: Global,
     heap: &mut Heap,
     base: usize,
@@ -139,13 +186,8 @@ fn write_lam(
     ensures grows { Grows heap.old heap.new [] [] }
 {
     heap.is_sound();
-    let inside = next_depth(depth)?;
-    let node = body_at(alloc, heap, lam, depth)?;
-    work.push(Piece::Top {
-        node,
-        depth: inside,
-    })?;
-    write_binder(alloc, depth - base, out)
+    let kept = kept_below(alloc, heap, lam, depth)?;
+    write_lam(alloc, heap, base, lam, kept, depth, work, out)
 }
 
 /// Writes a head that isn't a variable, and leaves its arguments.
@@ -212,7 +254,7 @@ fn write_redex(
     push_arguments(args, depth, work)?;
     work.push(Piece::Close)?;
     out.push(b'(')?;
-    write_lam(alloc, heap, base, lam, depth, work, out)
+    write_seen_lam(alloc, heap, base, lam, depth, work, out)
 }
 
 /// Writes the front of what is seen of a term, and leaves the rest.
@@ -235,7 +277,7 @@ fn write_form(
     ensures grows { Grows heap.old heap.new [] [] }
 {
     match form {
-        Whnf::Lam(lam) => write_lam(alloc, heap, base, *lam, depth, work, out),
+        Whnf::Lam(lam) => write_seen_lam(alloc, heap, base, *lam, depth, work, out),
         Whnf::Rigid(head, args) => write_rigid(alloc, symbols, base, *head, args.as_slice(), depth, work, out),
         Whnf::Flex(v, args) => write_flex(alloc, namer, *v, args.as_slice(), depth, work, out),
         Whnf::Redex(lam, args) => write_redex(alloc, heap, base, *lam, args.as_slice(), depth, work, out),
@@ -315,6 +357,28 @@ fn write_inner(
     write_inner_form(alloc, heap, symbols, base, &form, depth, work, namer, out)
 }
 
+/// The same in the top form, of an abstraction that is known to stay.
+fn write_kept(
+    alloc: Global,
+    heap: &mut Heap,
+    base: usize,
+    node: TermId,
+    depth: usize,
+    kept: usize,
+    work: &mut Vec<Piece>,
+    out: &mut ByteText,
+) -> Result<(), AllocError>
+    requires node { IsNode base heap.old node depth }
+    requires kept { AreKept heap.old node.index kept }
+    requires some { 0 < kept }
+    requires pieces { ArePieces base heap.old (reverse work.old.items) }
+    ensures prints { OnOk result ((table : List (List ℕ)) (seen : List ℕ) → LeavesTerm table base top heap.old (read heap.old node.index names) depth (reverse work.old.items) (page out.old seen) heap.new (page out.new seen) (reverse work.new.items)) }
+    ensures err { OnErr result (out.new ≡ out.old) }
+    ensures grows { Grows heap.old heap.new [] [] }
+{
+    write_lam(alloc, heap, base, node, kept - 1, depth, work, out)
+}
+
 /// Writes the front of a piece, and leaves the rest of it on the work list.
 pub(crate) fn write_piece(
     alloc: Global,
@@ -337,7 +401,8 @@ pub(crate) fn write_piece(
             Ok(())
         }
         Piece::Infix(c) => write_infix(symbols, c, out),
-        Piece::Top { node, depth } => write_top(alloc, heap, symbols, base, node, depth, work, namer, out),
+        Piece::Top { node, depth, kept } if kept > 0 => write_kept(alloc, heap, base, node, depth, kept, work, out),
+        Piece::Top { node, depth, .. } => write_top(alloc, heap, symbols, base, node, depth, work, namer, out),
         Piece::Inner { node, depth } => write_inner(alloc, heap, symbols, base, node, depth, work, namer, out),
         Piece::Argument { node, depth } => {
             out.push(b' ')?;
