@@ -1,5 +1,5 @@
 -- Chains of abstractions.
-use Rattle.std.proofs.Common.{◌≡◌, ℕ, zero, suc, ◌+◌, ◌<◌, ◌≤◌, ◌&&◌, Bool, true, false, nat_lt, List, [], ◌∷◌, length, Option, Some, None, refl, sym, ap, ap₂, ◌∙◌, subst, arith}
+use Rattle.std.proofs.Common.{◌≡◌, ℕ, zero, suc, ◌+◌, ◌<◌, ◌&&◌, Bool, nat_lt, [], length, Option, Some, None, refl, sym, ap₂, ◌∙◌, subst, arith}
 use Rattle.std.proofs.lemmas.Bool.{lt-ltb}
 use Rattle.level_terms.specs.declared.node.Node.{Node}
 use Rattle.level_terms.specs.declared.node.Node.TheVariants.{Lam, Con, Int, Str, Level, App, Var}
@@ -9,7 +9,7 @@ use Rattle.level_terms.specs.Growth.{Grows}
 use Rattle.level_terms.specs.Laws.{IsPlace, ArePlaces}
 use Rattle.level_terms.specs.Reading.{read, enter}
 use Rattle.level_terms.specs.Sound.{IsSound}
-use Rattle.level_terms.specs.Valid.{valid, IsValid}
+use Rattle.level_terms.specs.Valid.{IsValid}
 use Rattle.level_terms.proofs.CoverLemmas.{places-enter}
 use Rattle.level_terms.proofs.FoldLemmas.{names_older, parts_older, node_at-below}
 use Rattle.level_terms.proofs.LocalLemmas.{and_right}
@@ -17,7 +17,7 @@ use Rattle.level_terms.proofs.NodeLemmas.{nodes_read}
 use Rattle.level_terms.proofs.ValidLemmas.{nodes_valid}
 use Rattle.ref_terms.specs.terms.Term as term
 use Rattle.ref_terms.specs.terms.Term.{Term, Head, At}
-use Rattle.ref_terms.specs.terms.Index.{sub, sub_head, under}
+use Rattle.ref_terms.specs.terms.Index.{sub}
 use Rattle.ref_terms.specs.terms.Eta.{lam}
 use Rattle.beta_fragment.specs.Body.{IsLam}
 use Rattle.beta_fragment.specs.Names.{names}
@@ -128,10 +128,13 @@ body-kept g s lam n k w l a d b e =
 pub kept-grown : (g h : Graph) → IsSound g → Grows g h [] [] → (k t : ℕ) → AreKept g t k → AreKept h t k
 kept-grown g h s gr zero t w = tt
 kept-grown g h s gr (suc k) t w =
-    let below : t < length g.nodes = node_at-below g.nodes t (Lam w.0 w.1) w.2 in
-    (w.0, w.1, node-stays g h gr t below ∙ w.2,
+    let below : t < length g.nodes = node_at-below g.nodes t (Lam w.0 w.1) w.2 in (
+      w.0,
+      w.1,
+      node-stays g h gr t below ∙ w.2,
       (λ env p. subst (λ (r : (ℕ → Term) → Term). IsAbstraction (r env)) (sym (grown-reads g h s gr t below)) (w.3 env p)),
-      kept-grown g h s gr k w.1.index w.4)
+      kept-grown g h s gr k w.1.index w.4,
+    )
 
 pub body-kept-grown : (g h : Graph) → IsSound g → Grows g h [] [] → (lam : TermId) (depth k : ℕ) → IsValid g lam.index depth → BodyIsKept g lam k → BodyIsKept h lam k
 body-kept-grown g h s gr lam depth k v w d b e = kept-grown g h s gr k b.index (w d b (sym (node-stays g h gr lam.index (valid-below g lam.index depth v)) ∙ e))

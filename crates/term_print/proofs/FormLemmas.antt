@@ -1,13 +1,12 @@
 -- Texts of applications.
-use Rattle.std.proofs.Common.{◌≡◌, ℕ, suc, ◌+◌, Bool, true, false, cond, List, [], ◌∷◌, ◌++◌, Option, Some, None, refl, sym, ap, ◌∙◌, append_assoc, append-nil}
+use Rattle.std.proofs.Common.{◌≡◌, ℕ, Bool, true, false, cond, List, [], ◌∷◌, ◌++◌, Option, None, refl, sym, ap, ◌∙◌, append_assoc, append-nil}
 use Rattle.ref_terms.specs.terms.Term.{Term, Lam, At, App, Head, Con, Int, Str, Name, Bound, Var}
 use Rattle.ref_terms.specs.terms.Ready.{ready}
-use Rattle.ref_terms.specs.terms.Apply.{apply}
 use Rattle.ref_terms.specs.terms.Index.{sub, first}
 use Rattle.ref_terms.specs.unification.Spine.{apply_all}
-use Rattle.ref_terms.specs.texts.Text.{Part, Bytes, Form, top, inner, front, left, symbol, infix_of, infix_word, bracketed, space}
+use Rattle.ref_terms.specs.texts.Text.{Part, Bytes, top, inner, front, left, symbol, infix_of, infix_word, bracketed, space}
 use Rattle.ref_terms.specs.search.Reserved.{word_of}
-use Rattle.term_print.specs.Opened.{head_part, application_form, applied_parts, parts}
+use Rattle.term_print.specs.Opened.{head_part, application_form, parts}
 use Rattle.term_print.specs.Pieces.{infix_head, IsPrefixed, is_bare, argument_parts}
 
 module _ (table : List (List ℕ)) (names indices : ℕ → Part) where

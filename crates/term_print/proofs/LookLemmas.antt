@@ -1,5 +1,5 @@
 -- What is seen of a term, and bodies of abstractions.
-use Rattle.std.proofs.Common.{◌≡◌, ℕ, zero, suc, ◌+◌, ◌-◌, ◌<◌, ◌≤◌, ◌++◌, Bool, true, false, cond, nat_eq, nat_lt, List, [], ◌∷◌, map, length, drop, get_or, reverse, Option, Some, None, refl, sym, ap, ap₂, ◌∙◌, subst, arith, append_assoc, length-append, ne_eqb, eqb-true, eq-eqb, ltb-true}
+use Rattle.std.proofs.Common.{◌≡◌, ℕ, zero, suc, ◌+◌, ◌<◌, ◌++◌, Bool, true, false, cond, nat_eq, nat_lt, List, [], ◌∷◌, length, drop, get_or, reverse, Option, Some, None, refl, sym, ap, ap₂, ◌∙◌, subst, arith, append_assoc, length-append, ne_eqb, eq-eqb}
 use Rattle.std.proofs.lemmas.Bool.{lt-ltb}
 use Rattle.std.proofs.lemmas.List.{reverse-append}
 use Rattle.level_terms.specs.declared.node.Node.{Node}
@@ -10,14 +10,13 @@ use Rattle.level_terms.specs.Growth.{Grows}
 use Rattle.level_terms.specs.Laws.{ArePlaces}
 use Rattle.level_terms.specs.Reading.{read, enter}
 use Rattle.level_terms.specs.Sound.{IsSound}
-use Rattle.level_terms.specs.Valid.{valid, IsValid}
+use Rattle.level_terms.specs.Valid.{IsValid}
 use Rattle.level_terms.proofs.NodeLemmas.{nodes_read}
 use Rattle.level_terms.proofs.ValidLemmas.{nodes_valid, growth_keeps_valid}
 use Rattle.ref_terms.specs.terms.Term as term
 use Rattle.ref_terms.specs.terms.Term.{Term, Head, At}
 use Rattle.ref_terms.specs.terms.Index.{sub, first}
 use Rattle.ref_terms.specs.terms.Eta.{lam}
-use Rattle.ref_terms.specs.terms.Ready.{ready}
 use Rattle.ref_terms.specs.terms.Apply.{apply, open_with}
 use Rattle.ref_terms.specs.terms.Built.{IsBuilt}
 use Rattle.ref_terms.specs.unification.Spine.{apply_all}
@@ -26,7 +25,7 @@ use Rattle.ref_terms.specs.lemmas.ReadyFacts.{ready-name}
 use Rattle.ref_terms.proofs.terms.OpeningLemmas.{opening-is-replacing}
 use Rattle.beta_fragment.specs.Names.{names}
 use Rattle.beta_fragment.specs.Body.{IsLam, opened_reads}
-use Rattle.beta_fragment.specs.HeadForm.{IsHeadForm, rigid_head, all_read, AllValidAt, IsAbstraction, ReadsAsLam, FirstUnready}
+use Rattle.beta_fragment.specs.HeadForm.{IsHeadForm, rigid_head, all_read, IsAbstraction, ReadsAsLam, FirstUnready}
 use Rattle.beta_fragment.specs.declared.answer.Whnf.{Whnf}
 use Rattle.beta_fragment.specs.declared.answer.Whnf.TheVariants.{Lam as lam_form, Rigid, Flex, Redex}
 use Rattle.beta_fragment.proofs.ReadLemmas.{valid-below, grown-reads, read-built}

@@ -1,5 +1,5 @@
 -- The names that stand in a reading.
-use Rattle.std.proofs.Common.{◌≡◌, ℕ, zero, suc, ◌<◌, ◌≤◌, ◌||◌, cond, nat_eq, nat_lt, Bool, true, false, List, [], ◌∷◌, map, length, slice_index, Option, refl, sym, ap, ap₂, ◌∙◌, arith, ltb-true, ltb-false, eqb-true, ◌-◌, decimal}
+use Rattle.std.proofs.Common.{◌≡◌, ℕ, zero, suc, ◌<◌, ◌≤◌, cond, nat_eq, nat_lt, Bool, true, false, List, [], ◌∷◌, map, length, slice_index, refl, sym, ap, ◌∙◌, arith, ltb-true, ltb-false, eqb-true, ◌-◌, decimal}
 use Rattle.level_terms.specs.declared.node.Node.{Node}
 use Rattle.level_terms.specs.declared.node.Node.TheVariants.{Con, Int, Str, Level, Lam, App, Var}
 use Rattle.level_terms.specs.declared.node.TermId.{TermId}
@@ -11,15 +11,14 @@ use Rattle.level_terms.proofs.LocalLemmas.{readings_local}
 use Rattle.ref_terms.specs.terms.Term as term
 use Rattle.ref_terms.specs.terms.Term.{Term, Head, At}
 use Rattle.ref_terms.specs.terms.Index.{shift, next}
-use Rattle.ref_terms.specs.terms.Apply.{apply, fill}
-use Rattle.ref_terms.specs.terms.Eta.{lam}
-use Rattle.ref_terms.specs.terms.Instance.{inst, inst_all, valued, only}
+use Rattle.ref_terms.specs.terms.Apply.{apply}
+use Rattle.ref_terms.specs.terms.Instance.{inst_all, valued, only}
 use Rattle.ref_terms.specs.terms.Occurs.{has_name, is_name}
 use Rattle.ref_terms.specs.unification.Spine.{apply_all}
 use Rattle.ref_terms.specs.lemmas.NameLemmas.{nameless-apply, nameless-lam, nameless-fill, has_name-ren, nat_eq_self, or_left, or_right}
 use Rattle.ref_terms.specs.texts.Text.{Part, Bytes, Form, front, left, inner, top, abstraction_form, binder, head_text, infix_of, term_parts}
 use Rattle.beta_fragment.specs.Names.{names}
-use Rattle.term_print.specs.Opened.{head_part, under_binder, application_form, parts, name_bytes, opened_parts}
+use Rattle.term_print.specs.Opened.{head_part, under_binder, parts, name_bytes, opened_parts}
 use Rattle.term_print.proofs.OpenedLemmas.{parts-same, app-same}
 
 -- a name stands in none of the terms for the levels
@@ -96,8 +95,8 @@ nameless-values x nodes depths [] v = refl
 nameless-values x nodes depths (a ∷ older) v =
     nameless-fill x (only a.variable (inst_all (values_of nodes depths older) (value_term nodes depths a)))
     (nameless-only x a.variable (inst_all (values_of nodes depths older) (value_term nodes depths a))
-      (nameless-fill x (valued (values_of nodes depths older)) (nameless-valued x (values_of nodes depths older) (nameless-values x nodes depths older)) (value_term nodes depths a)
-        (nameless-closed x nodes depths 0 (slice_index depths a.variable) a.value (λ i. At (term.Bound i)) (λ i. refl))))
+    (nameless-fill x (valued (values_of nodes depths older)) (nameless-valued x (values_of nodes depths older) (nameless-values x nodes depths older)) (value_term nodes depths a)
+    (nameless-closed x nodes depths 0 (slice_index depths a.variable) a.value (λ i. At (term.Bound i)) (λ i. refl))))
     (values_of nodes depths older v) (nameless-values x nodes depths older v)
 
 -- a reading has the names alone that the levels stand for

@@ -1,13 +1,9 @@
 -- Texts of opened terms.
-use Rattle.std.proofs.Common.{◌≡◌, ℕ, zero, suc, ◌-◌, ◌+◌, ◌<◌, ◌≤◌, cond, nat_lt, Bool, true, false, List, [], ◌∷◌, ◌++◌, Option, Some, None, refl, sym, ap, ap₂, ◌∙◌, arith, decimal, ltb-true, ltb-false, append_assoc}
+use Rattle.std.proofs.Common.{◌≡◌, ℕ, zero, suc, ◌-◌, ◌+◌, ◌<◌, cond, nat_lt, Bool, true, false, List, [], ◌∷◌, ◌++◌, Option, Some, None, refl, ap, ap₂, ◌∙◌, arith, decimal, ltb-true}
 use mathlib.Core.Path.{fun_ext}
 use Rattle.ref_terms.specs.terms.Term.{Term, Lam, At, App, Head, Con, Int, Str, Name, Bound, Var}
-use Rattle.ref_terms.specs.terms.Index.{sub, sub_head, under, shift, ren, ren_head, next, up, first}
-use Rattle.ref_terms.specs.terms.Ready.{ready}
-use Rattle.ref_terms.specs.terms.Apply.{apply}
-use Rattle.ref_terms.specs.unification.Spine.{apply_all}
-use Rattle.ref_terms.specs.texts.Text.{Part, Bytes, Form, top, inner, front, left, symbol, head_text, infix_of, infix_word, term_parts, bracketed, abstraction_form, binder, space}
-use Rattle.ref_terms.specs.search.Reserved.{word_of}
+use Rattle.ref_terms.specs.terms.Index.{sub, sub_head, under, shift, first}
+use Rattle.ref_terms.specs.texts.Text.{Part, Bytes, Form, top, inner, front, left, symbol, head_text, infix_of, term_parts, bracketed, abstraction_form, binder, space}
 use Rattle.level_terms.specs.Laws.{IsPlace, ArePlaces}
 use Rattle.term_print.specs.Opened.{head_part, under_binder, applied_parts, application_form, parts, name_bytes, opened_parts}
 

@@ -1,5 +1,5 @@
 -- The whole text of a term.
-use Rattle.std.proofs.Common.{◌≡◌, ℕ, ◌-◌, ◌+◌, ◌++◌, List, [], ◌∷◌, refl, sym, ap, ap₂, ◌∙◌, subst, append-nil, arith, reverse, length}
+use Rattle.std.proofs.Common.{◌≡◌, ℕ, ◌-◌, ◌++◌, List, [], ◌∷◌, refl, sym, ap, ◌∙◌, subst, append-nil, arith, reverse, length}
 use Rattle.level_terms.specs.declared.node.TermId.{TermId}
 use Rattle.level_terms.specs.Graph.{Graph}
 use Rattle.level_terms.specs.Growth.{Grows}
@@ -12,7 +12,7 @@ use Rattle.ref_terms.specs.texts.Numbering.{numbered}
 use Rattle.beta_fragment.specs.Names.{names}
 use Rattle.term_print.specs.Opened.{opened_parts}
 use Rattle.term_print.specs.Written.{seen_after, GainsFront, Page, Prints, Stops}
-use Rattle.term_print.specs.Pieces.{work_parts, work_size, ArePieces, Leaves, page}
+use Rattle.term_print.specs.Pieces.{work_parts, work_size, ArePieces, Leaves}
 use Rattle.term_print.specs.declared.piece.Piece.{Piece}
 use Rattle.term_print.specs.declared.piece.Piece.TheVariants.{Top}
 use Rattle.term_print.proofs.NameLemmas.{opened-base}
@@ -59,7 +59,7 @@ pub goes_on : (table : List (List ℕ)) (depth : ℕ) (first : Graph) (ps : List
     → Printing table depth first ps old h left new
 goes_on table depth first ps old g h work rest piece now new left e w l gr = record {
   prints = prints-trans old now new ps (work_parts table depth g (piece ∷ reverse rest)) (work_parts table depth h left)
-    (subst (λ (ws : List Piece). Prints old ps now (work_parts table depth g ws)) (pushed-one rest work piece e) w.prints) l.prints;
+      (subst (λ (ws : List Piece). Prints old ps now (work_parts table depth g ws)) (pushed-one rest work piece e) w.prints) l.prints;
   pieces = l.pieces;
   grows = grows-trans first g h [] [] [] w.grows gr;
 }
@@ -70,7 +70,7 @@ module _ (table : List (List ℕ)) (depth : ℕ) (first : Graph) (t : TermId) (v
   stopped-line rest piece now new e w s =
       subst (λ (ps : List Part). GainsFront (numbered old.seen ps) old.text new) (sym (line-parts table first t depth v))
       (stops-later old now (work_parts table depth first (Top t depth 0 ∷ [])) (work_parts table depth g (piece ∷ reverse rest)) new
-        (subst (λ (ws : List Piece). Prints old (work_parts table depth first (Top t depth 0 ∷ [])) now (work_parts table depth g ws)) (pushed-one rest work piece e) w.prints) s)
+      (subst (λ (ws : List Piece). Prints old (work_parts table depth first (Top t depth 0 ∷ [])) now (work_parts table depth g ws)) (pushed-one rest work piece e) w.prints) s)
 
   pub printed-line : (now : Page) → work ≡ [] → Printing table depth first (work_parts table depth first (Top t depth 0 ∷ [])) old g (reverse work) now → now.text ≡ old.text ++ numbered old.seen (term_line table (read first t.index names))
   printed-line now e w =

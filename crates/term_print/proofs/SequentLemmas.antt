@@ -74,9 +74,14 @@ prints-before p q ps rest w = record {
 }
 
 pub stops-before : (p : Page) (ps rest : List Part) (t : List ℕ) → Stops p ps t → Stops p (ps ++ rest) t
-stops-before p ps rest t s =
-    (s.0, s.1, (s.2.0 ++ numbered (seen_after p.seen ps) rest,
-      sym (append_assoc s.0 s.2.0 (numbered (seen_after p.seen ps) rest)) ∙ ap (λ (u : List ℕ). u ++ numbered (seen_after p.seen ps) rest) s.2.1 ∙ sym (numbered-append p.seen ps rest)))
+stops-before p ps rest t s = (
+  s.0,
+  s.1,
+  (
+    s.2.0 ++ numbered (seen_after p.seen ps) rest,
+    sym (append_assoc s.0 s.2.0 (numbered (seen_after p.seen ps) rest)) ∙ ap (λ (u : List ℕ). u ++ numbered (seen_after p.seen ps) rest) s.2.1 ∙ sym (numbered-append p.seen ps rest),
+  ),
+)
 
 -- bytes, and then what is left of the parts
 pub bytes-then : (t t' seen bs : List ℕ) (q : Page) (ps rest : List Part) → t' ≡ t ++ bs → Prints (page t' seen) ps q rest → Prints (page t seen) (Bytes bs ∷ ps) q rest
@@ -123,18 +128,18 @@ pub line-next : (table : List (List ℕ)) (g : Graph) (ts : List TermId) (i : �
 line-next table g ts i d l u e old all t t' seen t'' seen'' w b q r =
     prints-trans old (page t seen) (page t'' seen'') all (more_lines table (all_read g (drop i ts))) (more_lines table (all_read g (drop (i + 1) ts))) w
     (subst (λ (us : List TermId). Prints (page t seen) (more_lines table (all_read g us)) (page t'' seen'') (more_lines table (all_read g (drop (i + 1) ts)))) (sym (drop-next ts i d l))
-      (subst (λ (x : Term). Prints (page t seen) (more_lines table (x ∷ all_read g (drop (i + 1) ts))) (page t'' seen'') (more_lines table (all_read g (drop (i + 1) ts)))) e
-        (bytes-then t t' seen (codes "; ") (page t'' seen'') (term_line table u ++ more_lines table (all_read g (drop (i + 1) ts))) (more_lines table (all_read g (drop (i + 1) ts))) b
-          (prints-before (page t' seen) (page t'' seen'') (term_line table u) (more_lines table (all_read g (drop (i + 1) ts))) (printed-is t' seen t'' seen'' (term_line table u) q r)))))
+    (subst (λ (x : Term). Prints (page t seen) (more_lines table (x ∷ all_read g (drop (i + 1) ts))) (page t'' seen'') (more_lines table (all_read g (drop (i + 1) ts)))) e
+    (bytes-then t t' seen (codes "; ") (page t'' seen'') (term_line table u ++ more_lines table (all_read g (drop (i + 1) ts))) (more_lines table (all_read g (drop (i + 1) ts))) b
+    (prints-before (page t' seen) (page t'' seen'') (term_line table u) (more_lines table (all_read g (drop (i + 1) ts))) (printed-is t' seen t'' seen'' (term_line table u) q r)))))
 
 pub line-stops : (table : List (List ℕ)) (g : Graph) (ts : List TermId) (i : ℕ) (d : TermId) → i < length ts → (u : Term) → u ≡ read g (get_or ts i d).index names → (old : Page) (all : List Part) (t t' seen new : List ℕ)
     → Prints old all (page t seen) (more_lines table (all_read g (drop i ts))) → t' ≡ t ++ codes "; " → GainsFront (numbered seen (term_line table u)) t' new → Stops old all new
 line-stops table g ts i d l u e old all t t' seen new w b s =
     stops-later old (page t seen) all (more_lines table (all_read g (drop i ts))) new w
     (subst (λ (us : List TermId). Stops (page t seen) (more_lines table (all_read g us)) new) (sym (drop-next ts i d l))
-      (subst (λ (x : Term). Stops (page t seen) (more_lines table (x ∷ all_read g (drop (i + 1) ts))) new) e
-        (bytes-stop t t' seen (codes "; ") new (term_line table u ++ more_lines table (all_read g (drop (i + 1) ts))) b
-          (stops-before (page t' seen) (term_line table u) (more_lines table (all_read g (drop (i + 1) ts))) new s))))
+    (subst (λ (x : Term). Stops (page t seen) (more_lines table (x ∷ all_read g (drop (i + 1) ts))) new) e
+    (bytes-stop t t' seen (codes "; ") new (term_line table u ++ more_lines table (all_read g (drop (i + 1) ts))) b
+    (stops-before (page t' seen) (term_line table u) (more_lines table (all_read g (drop (i + 1) ts))) new s))))
 
 -- the definition's text of the names
 names-parts : (table : List (List ℕ)) (seen : List ℕ) (rest : List Part) (n k : ℕ) →
@@ -214,8 +219,8 @@ first-printed table g [] d u us t seen t' seen' q l e f a b w = absurd (omega (a
 first-printed table g (x ∷ ts) d u us t seen t' seen' q l e f a b w =
     subst (λ (y : Term). Prints (page t seen) (all_lines table (y ∷ all_read g ts)) q []) e
     (prints-trans (page t seen) (page t' seen') q (term_line table u ++ more_lines table (all_read g ts)) (more_lines table (all_read g ts)) []
-      (prints-before (page t seen) (page t' seen') (term_line table u) (more_lines table (all_read g ts)) (printed-is t seen t' seen' (term_line table u) a b))
-      (subst (λ (ys : List Term). Prints (page t' seen') (more_lines table ys) q []) f w))
+    (prints-before (page t seen) (page t' seen') (term_line table u) (more_lines table (all_read g ts)) (printed-is t seen t' seen' (term_line table u) a b))
+    (subst (λ (ys : List Term). Prints (page t' seen') (more_lines table ys) q []) f w))
 
 pub first-stopped : (table : List (List ℕ)) (g : Graph) (ts : List TermId) (d : TermId) (u : Term) (us : List Term) (t seen t' seen' new : List ℕ) → 0 < length ts → u ≡ read g (get_or ts 0 d).index names → us ≡ all_read g (drop 1 ts)
     → t' ≡ t ++ numbered seen (term_line table u) → seen' ≡ seen_after seen (term_line table u) → Stops (page t' seen') (more_lines table us) new → Stops (page t seen) (all_lines table (all_read g ts)) new
@@ -223,8 +228,8 @@ first-stopped table g [] d u us t seen t' seen' new l e f a b w = absurd (omega 
 first-stopped table g (x ∷ ts) d u us t seen t' seen' new l e f a b w =
     subst (λ (y : Term). Stops (page t seen) (all_lines table (y ∷ all_read g ts)) new) e
     (stops-later (page t seen) (page t' seen') (term_line table u ++ more_lines table (all_read g ts)) (more_lines table (all_read g ts)) new
-      (prints-before (page t seen) (page t' seen') (term_line table u) (more_lines table (all_read g ts)) (printed-is t seen t' seen' (term_line table u) a b))
-      (subst (λ (ys : List Term). Stops (page t' seen') (more_lines table ys) new) f w))
+    (prints-before (page t seen) (page t' seen') (term_line table u) (more_lines table (all_read g ts)) (printed-is t seen t' seen' (term_line table u) a b))
+    (subst (λ (ys : List Term). Stops (page t' seen') (more_lines table ys) new) f w))
 
 pub first-stops : (table : List (List ℕ)) (g : Graph) (ts : List TermId) (d : TermId) (t seen new : List ℕ) → 0 < length ts → GainsFront (numbered seen (term_line table (read g (get_or ts 0 d).index names))) t new → Stops (page t seen) (all_lines table (all_read g ts)) new
 first-stops table g [] d t seen new l s = absurd (omega (arith, l))
@@ -255,16 +260,16 @@ pub goal-printed : (table : List (List ℕ)) (d : ℕ) (us : List Term) (u v : T
 goal-printed table d us u v t t1 seen t2 seen2 t3 t4 seen4 e w f k a b =
     subst (λ (x : Term). Prints (page t seen) (sequent_line table d us x) (page t4 seen4) []) k
     (prints-trans (page t seen) (page t2 seen2) (page t4 seen4) (sequent_line table d us v) (Bytes (codes "] ?- ") ∷ term_line table v) []
-      (scope-printed t t1 seen (page t2 seen2) d (all_lines table us) (Bytes (codes "] ?- ") ∷ term_line table v) e w)
-      (bytes-then t2 t3 seen2 (codes "] ?- ") (page t4 seen4) (term_line table v) [] f (printed-is t3 seen2 t4 seen4 (term_line table v) a b)))
+    (scope-printed t t1 seen (page t2 seen2) d (all_lines table us) (Bytes (codes "] ?- ") ∷ term_line table v) e w)
+    (bytes-then t2 t3 seen2 (codes "] ?- ") (page t4 seen4) (term_line table v) [] f (printed-is t3 seen2 t4 seen4 (term_line table v) a b)))
 
 pub goal-stops : (table : List (List ℕ)) (d : ℕ) (us : List Term) (u v : Term) (t t1 seen t2 seen2 t3 new : List ℕ) → t1 ≡ t ++ scope_bytes d → Prints (page t1 seen) (all_lines table us) (page t2 seen2) []
     → t3 ≡ t2 ++ codes "] ?- " → v ≡ u → GainsFront (numbered seen2 (term_line table v)) t3 new → Stops (page t seen) (sequent_line table d us u) new
 goal-stops table d us u v t t1 seen t2 seen2 t3 new e w f k s =
     subst (λ (x : Term). Stops (page t seen) (sequent_line table d us x) new) k
     (stops-later (page t seen) (page t2 seen2) (sequent_line table d us v) (Bytes (codes "] ?- ") ∷ term_line table v) new
-      (scope-printed t t1 seen (page t2 seen2) d (all_lines table us) (Bytes (codes "] ?- ") ∷ term_line table v) e w)
-      (bytes-stop t2 t3 seen2 (codes "] ?- ") new (term_line table v) f s))
+    (scope-printed t t1 seen (page t2 seen2) d (all_lines table us) (Bytes (codes "] ?- ") ∷ term_line table v) e w)
+    (bytes-stop t2 t3 seen2 (codes "] ?- ") new (term_line table v) f s))
 
 pub turn-stops : (table : List (List ℕ)) (d : ℕ) (us : List Term) (u : Term) (t t1 seen t2 seen2 new : List ℕ) → t1 ≡ t ++ scope_bytes d → Prints (page t1 seen) (all_lines table us) (page t2 seen2) [] → new ≡ t2 → Stops (page t seen) (sequent_line table d us u) new
 turn-stops table d us u t t1 seen t2 seen2 new e w f =

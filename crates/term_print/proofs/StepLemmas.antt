@@ -1,8 +1,7 @@
 -- What one step leaves.
-use Rattle.std.proofs.Common.{◌≡◌, ℕ, zero, suc, ◌+◌, ◌-◌, ◌*◌, ◌<◌, ◌≤◌, Bool, true, false, cond, List, [], ◌∷◌, ◌++◌, map, length, Option, Some, None, refl, sym, ap, ap₂, ◌∙◌, subst, arith, append_assoc, append-nil, length-append, decimal, reverse, get_or}
+use Rattle.std.proofs.Common.{◌≡◌, ℕ, suc, ◌+◌, ◌-◌, ◌*◌, ◌≤◌, Bool, true, false, cond, List, [], ◌∷◌, ◌++◌, length, refl, sym, ap, ap₂, ◌∙◌, subst, arith, append_assoc, length-append, decimal, reverse, get_or}
 use Rattle.std.proofs.lemmas.List.{reverse-append, reverse-reverse, length-map}
 use Rattle.level_terms.specs.declared.node.TermId.{TermId}
-use Rattle.level_terms.specs.declared.node.VarId.{VarId}
 use Rattle.level_terms.specs.Graph.{Graph}
 use Rattle.level_terms.specs.Growth.{Grows}
 use Rattle.level_terms.specs.Reading.{read}
@@ -13,22 +12,21 @@ use Rattle.ref_terms.specs.declared.sym.Sym.{Sym}
 use Rattle.ref_terms.specs.terms.Term as term
 use Rattle.ref_terms.specs.terms.Term.{Term, At}
 use Rattle.ref_terms.specs.terms.Index.{sub, first}
-use Rattle.ref_terms.specs.terms.Ready.{ready}
 use Rattle.ref_terms.specs.unification.Spine.{apply_all}
 use Rattle.ref_terms.specs.search.Reserved.{word_of}
 use Rattle.ref_terms.specs.texts.Text as text
 use Rattle.ref_terms.specs.texts.Text.{Part, Bytes, Free, Form, symbol, head_text, infix_word, space, bracketed}
 use Rattle.ref_terms.specs.texts.Numbering.{place_of, seen_also, numbered}
 use Rattle.beta_fragment.specs.Names.{names}
-use Rattle.beta_fragment.specs.HeadForm.{rigid_head, all_read, AllValidAt, IsAbstraction, ReadsAsLam, FirstUnready}
+use Rattle.beta_fragment.specs.HeadForm.{rigid_head, all_read, AllValidAt, IsAbstraction, FirstUnready}
 use Rattle.beta_fragment.specs.declared.answer.RigidHead.{RigidHead}
 use Rattle.beta_fragment.specs.declared.answer.RigidHead.TheVariants.{Con, Int, Str, Level}
 use Rattle.beta_fragment.proofs.ReadLemmas.{valid-below, grown-reads}
 use Rattle.term_print.specs.Chains.{AreKept}
-use Rattle.term_print.specs.Opened.{head_part, under_binder, parts, name_bytes, opened_parts}
+use Rattle.term_print.specs.Opened.{head_part, name_bytes, opened_parts}
 use Rattle.term_print.specs.Heads.{rigid_bytes, binder_bytes, infix_bytes}
 use Rattle.term_print.specs.Written.{Page, Prints, Stops, GainsFront}
-use Rattle.term_print.specs.Pieces.{infix_head, IsPrefixed, is_bare, argument_parts, node_parts, piece_parts, work_parts, IsNode, IsPiece, ArePieces, piece_size, work_size, argument_pieces, Leaves, LeavesTerm, StopsTerm, page}
+use Rattle.term_print.specs.Pieces.{IsPrefixed, is_bare, argument_parts, node_parts, piece_parts, work_parts, IsNode, IsPiece, ArePieces, piece_size, work_size, argument_pieces, Leaves, LeavesTerm, StopsTerm, page}
 use Rattle.term_print.specs.declared.piece.Piece.{Piece}
 use Rattle.term_print.specs.declared.piece.Piece.TheVariants.{Close, Infix, Top, Inner, Argument}
 use Rattle.term_print.proofs.WrittenLemmas.{prints-same, prints-trans, prints-bytes, prints-free, prints-none, stops-now, stops-later, stops-same, stops-bytes}
@@ -126,13 +124,13 @@ module _ (table : List (List ℕ)) (base : ℕ) (g : Graph) (depth : ℕ) (rest 
       → LeavesTerm table base text.top g (apply_all (At k) (all_read g ts)) depth rest old g new (argument_pieces depth ts ++ rest)
   prefixed-leaves k ts old new w v p = record {
     prints = prints-same old new _ _ _ _
-      (ap (λ (ps : List Part). ps ++ work_parts table base g rest) (head-top table (name_parts base) (index_parts table) k (all_read g ts) (depth - base) w))
-      (sym (args-parts table base g depth rest ts)) p;
+        (ap (λ (ps : List Part). ps ++ work_parts table base g rest) (head-top table (name_parts base) (index_parts table) k (all_read g ts) (depth - base) w))
+        (sym (args-parts table base g depth rest ts)) p;
     pieces = args-pieces table base g depth rest ts v deep there;
     falls =
-      let long = ap (λ (ps : List Part). length ps) (head-top [] (name_parts base) (index_parts []) k (all_read g ts) (depth - base) w) in
-      let less = args-size table base g depth rest ts in
-      omega (arith, long, less);
+        let long = ap (λ (ps : List Part). length ps) (head-top [] (name_parts base) (index_parts []) k (all_read g ts) (depth - base) w) in
+        let less = args-size table base g depth rest ts in
+        omega (arith, long, less);
   }
 
   pub rigid-leaves : (k : RigidHead) (ts : List TermId) (t seen : List ℕ) → IsPrefixed (rigid_head k) (all_read g ts) → AllValidAt g ts depth →
@@ -140,7 +138,7 @@ module _ (table : List (List ℕ)) (base : ℕ) (g : Graph) (depth : ℕ) (rest 
   rigid-leaves k ts t seen w v =
       prefixed-leaves (rigid_head k) ts (page t seen) (page (t ++ rigid_bytes table base k) seen) w v
       (prints-same _ _ _ _ _ _ (ap (λ (q : Part). q ∷ (argument_parts table (name_parts base) (index_parts table) (depth - base) (all_read g ts) ++ work_parts table base g rest)) (head-is table base k)) refl
-        (prints-bytes t seen (rigid_bytes table base k) (argument_parts table (name_parts base) (index_parts table) (depth - base) (all_read g ts) ++ work_parts table base g rest)))
+      (prints-bytes t seen (rigid_bytes table base k) (argument_parts table (name_parts base) (index_parts table) (depth - base) (all_read g ts) ++ work_parts table base g rest)))
 
   pub flex-leaves : (v : ℕ) (ts : List TermId) (t seen : List ℕ) → AllValidAt g ts depth →
       LeavesTerm table base text.top g (apply_all (At (term.Var v)) (all_read g ts)) depth rest (page t seen) g (page (t ++ 63 ∷ decimal (place_of v seen)) (seen_also v seen)) (argument_pieces depth ts ++ rest)
@@ -156,14 +154,14 @@ module _ (table : List (List ℕ)) (base : ℕ) (g : Graph) (depth : ℕ) (rest 
       let right = node_parts table base g b depth text.inner in
       record {
         prints = prints-same p p _ _ _ _ refl
-          (ap (λ (ps : List Part). ps ++ work_parts table base g rest) (infix-top table (name_parts base) (index_parts table) c.0 (read g a.index names) (read g b.index names) (depth - base) e)
-          ∙ append_assoc (node_parts table base g a depth text.inner) (space ∷ Bytes (symbol table c.0) ∷ space ∷ node_parts table base g b depth text.inner) (work_parts table base g rest))
-          (prints-none p (opened_parts table base (apply_all (At (term.Con c.0)) (all_read g (a ∷ b ∷ []))) text.top (depth - base) ++ work_parts table base g rest));
+            (ap (λ (ps : List Part). ps ++ work_parts table base g rest) (infix-top table (name_parts base) (index_parts table) c.0 (read g a.index names) (read g b.index names) (depth - base) e)
+            ∙ append_assoc (node_parts table base g a depth text.inner) (space ∷ Bytes (symbol table c.0) ∷ space ∷ node_parts table base g b depth text.inner) (work_parts table base g rest))
+            (prints-none p (opened_parts table base (apply_all (At (term.Con c.0)) (all_read g (a ∷ b ∷ []))) text.top (depth - base) ++ work_parts table base g rest));
         pieces = (record { valid = v; deep = deep }, (tt, (record { valid = w; deep = deep }, there)));
         falls =
-          let long = ap (λ (ps : List Part). length ps) (infix-top [] (name_parts base) (index_parts []) c.0 (read g a.index names) (read g b.index names) (depth - base) e) in
-          let sum = length-append (node_parts [] base g a depth text.inner) (space ∷ Bytes (symbol [] c.0) ∷ space ∷ node_parts [] base g b depth text.inner) in
-          omega (arith, long, sum);
+            let long = ap (λ (ps : List Part). length ps) (infix-top [] (name_parts base) (index_parts []) c.0 (read g a.index names) (read g b.index names) (depth - base) e) in
+            let sum = length-append (node_parts [] base g a depth text.inner) (space ∷ Bytes (symbol [] c.0) ∷ space ∷ node_parts [] base g b depth text.inner) in
+            omega (arith, long, sum);
       }
 
 -- the text of an abstraction, by that of its body
@@ -187,16 +185,16 @@ pub lam-leaves : (table : List (List ℕ)) (base : ℕ) (g h : Graph) → IsSoun
 lam-leaves table base g h s gr depth rest deep there u b e node kept k v r t seen =
     record {
       prints = prints-same (page t seen) (page (t ++ binder_bytes (depth - base)) seen) _ _ _ _
-        (ap (λ (x : Term). opened_parts table base x text.top (depth - base) ++ work_parts table base g rest) e
-        ∙ ap (λ (ps : List Part). ps ++ work_parts table base g rest) (lam-parts table base depth b deep))
-        (ap₂ (λ (x : Term) (ps : List Part). opened_parts table base x text.top (depth + 1 - base) ++ ps) (sym r) (sym (work-grown g h s gr table base rest there)))
-        (prints-bytes t seen (binder_bytes (depth - base)) (opened_parts table base (sub (first (names depth)) b) text.top (depth + 1 - base) ++ work_parts table base g rest));
+          (ap (λ (x : Term). opened_parts table base x text.top (depth - base) ++ work_parts table base g rest) e
+          ∙ ap (λ (ps : List Part). ps ++ work_parts table base g rest) (lam-parts table base depth b deep))
+          (ap₂ (λ (x : Term) (ps : List Part). opened_parts table base x text.top (depth + 1 - base) ++ ps) (sym r) (sym (work-grown g h s gr table base rest there)))
+          (prints-bytes t seen (binder_bytes (depth - base)) (opened_parts table base (sub (first (names depth)) b) text.top (depth + 1 - base) ++ work_parts table base g rest));
       pieces = ((record { valid = v; deep = omega (arith, deep) }, k), pieces-grown g h s gr base rest there);
       falls =
-        let long = ap (λ (x : Term). length (opened_parts [] base x text.top (depth - base))) e ∙ ap (λ (ps : List Part). length ps) (lam-parts [] base depth b deep) in
-        let body = ap (λ (x : Term). length (opened_parts [] base x text.top (depth + 1 - base))) r in
-        let same = size-grown g h s gr base rest there in
-        omega (arith, long, body, same);
+          let long = ap (λ (x : Term). length (opened_parts [] base x text.top (depth - base))) e ∙ ap (λ (ps : List Part). length ps) (lam-parts [] base depth b deep) in
+          let body = ap (λ (x : Term). length (opened_parts [] base x text.top (depth + 1 - base))) r in
+          let same = size-grown g h s gr base rest there in
+          omega (arith, long, body, same);
     }
 
 -- brackets around a term, before arguments
@@ -223,20 +221,20 @@ module _ (table : List (List ℕ)) (base : ℕ) (g h : Graph) (depth : ℕ) (res
       → LeavesTerm table base text.top g (apply_all u (all_read g ts)) depth rest (page t seen) h new left
   redex-leaves ts a r new left w = record {
     prints = prints-same (page t seen) new _ _ _ _
-      (ap (λ (ps : List Part). ps ++ work_parts table base g rest) (redex-parts table base g u ts (depth - base) a r)
-      ∙ bracket-parts (opened_parts table base u text.top (depth - base)) (argument_parts table (name_parts base) (index_parts table) (depth - base) (all_read g ts)) (work_parts table base g rest)
-      ∙ ap (λ (ps : List Part). Bytes (40 ∷ []) ∷ (opened_parts table base u text.top (depth - base) ++ (Bytes (41 ∷ []) ∷ ps))) (sym (args-parts table base g depth rest ts)))
-      refl
-      (prints-trans (page t seen) (page (t ++ 40 ∷ []) seen) new _ _ _
+        (ap (λ (ps : List Part). ps ++ work_parts table base g rest) (redex-parts table base g u ts (depth - base) a r)
+        ∙ bracket-parts (opened_parts table base u text.top (depth - base)) (argument_parts table (name_parts base) (index_parts table) (depth - base) (all_read g ts)) (work_parts table base g rest)
+        ∙ ap (λ (ps : List Part). Bytes (40 ∷ []) ∷ (opened_parts table base u text.top (depth - base) ++ (Bytes (41 ∷ []) ∷ ps))) (sym (args-parts table base g depth rest ts)))
+        refl
+        (prints-trans (page t seen) (page (t ++ 40 ∷ []) seen) new _ _ _
         (prints-bytes t seen (40 ∷ []) (opened_parts table base u text.top (depth - base) ++ work_parts table base g (Close ∷ argument_pieces depth ts ++ rest))) w.prints);
     pieces = w.pieces;
     falls =
-      let long = ap (λ (ps : List Part). length ps) (redex-parts [] base g u ts (depth - base) a r)
-          ∙ length-append (bracketed (opened_parts [] base u text.top (depth - base))) (argument_parts [] (name_parts base) (index_parts []) (depth - base) (all_read g ts)) in
-      let two = length-bracketed (opened_parts [] base u text.top (depth - base)) in
-      let less = args-size table base g depth rest ts in
-      let falls = w.falls in
-      omega (arith, long, two, less, falls);
+        let long = ap (λ (ps : List Part). length ps) (redex-parts [] base g u ts (depth - base) a r)
+        ∙ length-append (bracketed (opened_parts [] base u text.top (depth - base))) (argument_parts [] (name_parts base) (index_parts []) (depth - base) (all_read g ts)) in
+        let two = length-bracketed (opened_parts [] base u text.top (depth - base)) in
+        let less = args-size table base g depth rest ts in
+        let falls = w.falls in
+        omega (arith, long, two, less, falls);
   }
 
   pub redex-stops : (ts : List TermId) → IsAbstraction u → FirstUnready g ts → (new : List ℕ) → new ≡ t ++ 40 ∷ [] → StopsTerm table base text.top g (apply_all u (all_read g ts)) depth rest (page t seen) new
@@ -246,9 +244,9 @@ module _ (table : List (List ℕ)) (base : ℕ) (g h : Graph) (depth : ℕ) (res
       ∙ bracket-parts (opened_parts table base u text.top (depth - base)) (argument_parts table (name_parts base) (index_parts table) (depth - base) (all_read g ts)) (work_parts table base g rest)
       ∙ ap (λ (ps : List Part). Bytes (40 ∷ []) ∷ (opened_parts table base u text.top (depth - base) ++ (Bytes (41 ∷ []) ∷ ps))) (sym (args-parts table base g depth rest ts)))
       (stops-later (page t seen) (page (t ++ 40 ∷ []) seen) _ (opened_parts table base u text.top (depth - base) ++ work_parts table base g (Close ∷ argument_pieces depth ts ++ rest)) new
-        (prints-bytes t seen (40 ∷ []) (opened_parts table base u text.top (depth - base) ++ work_parts table base g (Close ∷ argument_pieces depth ts ++ rest)))
-        (subst (λ (x : List ℕ). Stops (page (t ++ 40 ∷ []) seen) (opened_parts table base u text.top (depth - base) ++ work_parts table base g (Close ∷ argument_pieces depth ts ++ rest)) x) (sym e)
-          (stops-now (page (t ++ 40 ∷ []) seen) (opened_parts table base u text.top (depth - base) ++ work_parts table base g (Close ∷ argument_pieces depth ts ++ rest)))))
+      (prints-bytes t seen (40 ∷ []) (opened_parts table base u text.top (depth - base) ++ work_parts table base g (Close ∷ argument_pieces depth ts ++ rest)))
+      (subst (λ (x : List ℕ). Stops (page (t ++ 40 ∷ []) seen) (opened_parts table base u text.top (depth - base) ++ work_parts table base g (Close ∷ argument_pieces depth ts ++ rest)) x) (sym e)
+      (stops-now (page (t ++ 40 ∷ []) seen) (opened_parts table base u text.top (depth - base) ++ work_parts table base g (Close ∷ argument_pieces depth ts ++ rest)))))
 
   -- the inner form of a head alone
   bare-parts : (tb : List (List ℕ)) → is_bare u ≡ true → opened_parts tb base u text.inner (depth - base) ≡ opened_parts tb base u text.top (depth - base)
@@ -276,21 +274,21 @@ module _ (table : List (List ℕ)) (base : ℕ) (g h : Graph) (depth : ℕ) (res
   pub bracket-leaves : is_bare u ≡ false → (new : Page) (left : List Piece) → LeavesTerm table base text.top g u depth (Close ∷ rest) (page (t ++ 40 ∷ []) seen) h new left → LeavesTerm table base text.inner g u depth rest (page t seen) h new left
   bracket-leaves e new left w = record {
     prints = prints-same (page t seen) new _ _ _ _ (open-parts e) refl
-      (prints-trans (page t seen) (page (t ++ 40 ∷ []) seen) new _ _ _
+        (prints-trans (page t seen) (page (t ++ 40 ∷ []) seen) new _ _ _
         (prints-bytes t seen (40 ∷ []) (opened_parts table base u text.top (depth - base) ++ work_parts table base g (Close ∷ rest))) w.prints);
     pieces = w.pieces;
     falls =
-      let long = ap (λ (ps : List Part). length ps) (bracketed-parts [] e) in
-      let two = length-bracketed (opened_parts [] base u text.top (depth - base)) in
-      let falls = w.falls in
-      omega (arith, long, two, falls);
+        let long = ap (λ (ps : List Part). length ps) (bracketed-parts [] e) in
+        let two = length-bracketed (opened_parts [] base u text.top (depth - base)) in
+        let falls = w.falls in
+        omega (arith, long, two, falls);
   }
 
   pub bracket-stops : is_bare u ≡ false → (new : List ℕ) → StopsTerm table base text.top g u depth (Close ∷ rest) (page (t ++ 40 ∷ []) seen) new → StopsTerm table base text.inner g u depth rest (page t seen) new
   bracket-stops e new w =
       stops-same (page t seen) (Bytes (40 ∷ []) ∷ (opened_parts table base u text.top (depth - base) ++ work_parts table base g (Close ∷ rest))) _ new (open-parts e)
       (stops-later (page t seen) (page (t ++ 40 ∷ []) seen) _ (opened_parts table base u text.top (depth - base) ++ work_parts table base g (Close ∷ rest)) new
-        (prints-bytes t seen (40 ∷ []) (opened_parts table base u text.top (depth - base) ++ work_parts table base g (Close ∷ rest))) w)
+      (prints-bytes t seen (40 ∷ []) (opened_parts table base u text.top (depth - base) ++ work_parts table base g (Close ∷ rest))) w)
 
 -- a look at the node adds nodes alone
 pub looked-leaves : (table : List (List ℕ)) (base : ℕ) (k : Form) (g m h : Graph) → IsSound g → Grows g m [] [] → (u v : Term) → u ≡ v → (depth : ℕ) (rest : List Piece) → ArePieces base g rest → (old new : Page) (left : List Piece)
@@ -299,10 +297,10 @@ looked-leaves table base k g m h s gr u v e depth rest there old new left w = re
   prints = prints-same old new _ _ _ _ (ap₂ (λ (x : Term) (ps : List Part). opened_parts table base x k (depth - base) ++ ps) e (sym (work-grown g m s gr table base rest there))) refl w.prints;
   pieces = w.pieces;
   falls =
-    let long = ap (λ (x : Term). length (opened_parts [] base x k (depth - base))) e in
-    let same = size-grown g m s gr base rest there in
-    let falls = w.falls in
-    omega (arith, long, same, falls);
+      let long = ap (λ (x : Term). length (opened_parts [] base x k (depth - base))) e in
+      let same = size-grown g m s gr base rest there in
+      let falls = w.falls in
+      omega (arith, long, same, falls);
 }
 
 pub looked-stops : (table : List (List ℕ)) (base : ℕ) (k : Form) (g m : Graph) → IsSound g → Grows g m [] [] → (u v : Term) → u ≡ v → (depth : ℕ) (rest : List Piece) → ArePieces base g rest → (old : Page) (new : List ℕ)
@@ -367,8 +365,8 @@ infix-printed table base g depth work new deep there k c ts a b h i l v e p =
     let valid = subst (λ (x : List TermId). AllValidAt g x depth) l v in
     subst (λ (q : term.Head). LeavesTerm table base text.top g (apply_all (At q) (all_read g ts)) depth (reverse work) p g p (reverse new)) (sym h)
     (subst (λ (x : List TermId). LeavesTerm table base text.top g (apply_all (At (term.Con c.0)) (all_read g x)) depth (reverse work) p g p (reverse new)) (sym l)
-      (leaves-same table base p _ _ g p p (Inner a depth ∷ Infix c ∷ Inner b depth ∷ reverse work) (reverse new) refl (pushed-three work new (Inner b depth) (Infix c) (Inner a depth) e)
-        (infix-leaves table base g depth (reverse work) deep there c a b p i valid.0 valid.1.0)))
+    (leaves-same table base p _ _ g p p (Inner a depth ∷ Infix c ∷ Inner b depth ∷ reverse work) (reverse new) refl (pushed-three work new (Inner b depth) (Infix c) (Inner a depth) e)
+    (infix-leaves table base g depth (reverse work) deep there c a b p i valid.0 valid.1.0)))
 
 -- two items
 pub two-items : (ts : List TermId) (d : TermId) → length ts ≡ 2 → ts ≡ get_or ts 0 d ∷ get_or ts 1 d ∷ []
@@ -388,24 +386,29 @@ pub redex-printed : (table : List (List ℕ)) (base : ℕ) (g h : Graph) (depth 
 redex-printed table base g h depth work one two u t t' out seen ts a r left e f q w =
     redex-leaves table base g h depth (reverse work) u t seen ts a r (page out seen) left
     (subst (λ (x : List ℕ). LeavesTerm table base text.top g u depth (Close ∷ argument_pieces depth ts ++ reverse work) (page x seen) h (page out seen) left) q
-      (subst (λ (ps : List Piece). LeavesTerm table base text.top g u depth ps (page t' seen) h (page out seen) left) (pushed-redex work one two depth ts e f) w))
+    (subst (λ (ps : List Piece). LeavesTerm table base text.top g u depth ps (page t' seen) h (page out seen) left) (pushed-redex work one two depth ts e f) w))
 
 pub bracket-printed : (table : List (List ℕ)) (base : ℕ) (g h : Graph) (depth : ℕ) (work one : List Piece) (u : Term) (t t' seen : List ℕ) → is_bare u ≡ false → one ≡ work ++ Close ∷ [] → t' ≡ t ++ 40 ∷ [] → (new : Page) (left : List Piece)
     → LeavesTerm table base text.top g u depth (reverse one) (page t' seen) h new left → LeavesTerm table base text.inner g u depth (reverse work) (page t seen) h new left
 bracket-printed table base g h depth work one u t t' seen b e q new left w =
     bracket-leaves table base g h depth (reverse work) u t seen b new left
     (subst (λ (x : List ℕ). LeavesTerm table base text.top g u depth (Close ∷ reverse work) (page x seen) h new left) q
-      (subst (λ (ps : List Piece). LeavesTerm table base text.top g u depth ps (page t' seen) h new left) (pushed-one work one Close e) w))
+    (subst (λ (ps : List Piece). LeavesTerm table base text.top g u depth ps (page t' seen) h new left) (pushed-one work one Close e) w))
 
 pub bracket-stopped : (table : List (List ℕ)) (base : ℕ) (g h : Graph) (depth : ℕ) (work one : List Piece) (u : Term) (t t' seen : List ℕ) → is_bare u ≡ false → one ≡ work ++ Close ∷ [] → t' ≡ t ++ 40 ∷ [] → (new : List ℕ)
     → StopsTerm table base text.top g u depth (reverse one) (page t' seen) new → StopsTerm table base text.inner g u depth (reverse work) (page t seen) new
 bracket-stopped table base g h depth work one u t t' seen b e q new w =
     bracket-stops table base g h depth (reverse work) u t seen b new
     (subst (λ (x : List ℕ). StopsTerm table base text.top g u depth (Close ∷ reverse work) (page x seen) new) q
-      (subst (λ (ps : List Piece). StopsTerm table base text.top g u depth ps (page t' seen) new) (pushed-one work one Close e) w))
+    (subst (λ (ps : List Piece). StopsTerm table base text.top g u depth ps (page t' seen) new) (pushed-one work one Close e) w))
 
 pub infix-stopped : (table : List (List ℕ)) (base : ℕ) (g : Graph) (c : Sym) (rest : List Piece) (t seen new : List ℕ) → GainsFront (infix_bytes table c) t new → Stops (page t seen) (work_parts table base g (Infix c ∷ rest)) new
-infix-stopped table base g c rest t seen new s =
-    (s.0, s.1, (s.2.0 ++ numbered seen (work_parts table base g rest),
-      sym (append_assoc s.0 s.2.0 (numbered seen (work_parts table base g rest))) ∙ ap (λ (u : List ℕ). u ++ numbered seen (work_parts table base g rest)) s.2.1
-      ∙ ap (λ (u : List ℕ). 32 ∷ u) (append_assoc (symbol table c.0) (32 ∷ []) (numbered seen (work_parts table base g rest)))))
+infix-stopped table base g c rest t seen new s = (
+  s.0,
+  s.1,
+  (
+    s.2.0 ++ numbered seen (work_parts table base g rest),
+    sym (append_assoc s.0 s.2.0 (numbered seen (work_parts table base g rest))) ∙ ap (λ (u : List ℕ). u ++ numbered seen (work_parts table base g rest)) s.2.1
+        ∙ ap (λ (u : List ℕ). 32 ∷ u) (append_assoc (symbol table c.0) (32 ∷ []) (numbered seen (work_parts table base g rest))),
+  ),
+)

@@ -4,7 +4,6 @@ use Rattle.std.specs.Prelude.{flat_map, IfOk, OnOk, OnErr, Ok, Err}
 use Rattle.std.specs.declared.result.Result.{Result}
 use Rattle.std.proofs.lemmas.Grind.{flat_map-append}
 use Rattle.std.proofs.lemmas.List.{take-append-drop}
-use Rattle.lam_io.specs.Writes.{IsFront}
 use Rattle.ref_terms.specs.texts.Text.{Part, Bytes, Free, escaped}
 use Rattle.ref_terms.specs.texts.Numbering.{place_of, seen_also, numbered}
 use Rattle.term_print.specs.Written.{seen_after, GainsFront, Page, Prints, Stops}
@@ -42,9 +41,14 @@ prints-free t seen v ps = record { more = 63 ∷ decimal (place_of v seen); text
 -- stopping after something was written
 pub stops-later : (p q : Page) (ps qs : List Part) (t : List ℕ) → Prints p ps q qs → Stops q qs t → Stops p ps t
 stops-later p q ps qs t w s =
-    let rest = s.2.0 in
-    (w.more ++ s.0, s.1 ∙ ap (λ u. u ++ s.0) w.text ∙ append_assoc p.text w.more s.0, (rest,
-      append_assoc w.more s.0 rest ∙ ap (λ u. w.more ++ u) s.2.1 ∙ sym w.parts))
+    let rest = s.2.0 in (
+      w.more ++ s.0,
+      s.1 ∙ ap (λ u. u ++ s.0) w.text ∙ append_assoc p.text w.more s.0,
+      (
+        rest,
+        append_assoc w.more s.0 rest ∙ ap (λ u. w.more ++ u) s.2.1 ∙ sym w.parts,
+      ),
+    )
 
 -- stopping at once
 pub stops-now : (p : Page) (ps : List Part) → Stops p ps p.text

@@ -3,11 +3,10 @@ use Rattle.std.specs.Prelude.{◌≡◌, ℕ, zero, suc, List, [], ◌∷◌, �
 use Rattle.level_terms.specs.declared.node.TermId.{TermId}
 use Rattle.level_terms.specs.Graph.{Graph}
 use Rattle.level_terms.specs.Reading.{read}
-use Rattle.ref_terms.specs.terms.Term.{Term, Name}
-use Rattle.ref_terms.specs.unification.Closing.{names_below}
+use Rattle.ref_terms.specs.terms.Term.{Term}
 use Rattle.ref_terms.specs.search.Branch.{Constraint}
-use Rattle.ref_terms.specs.texts.Text.{Part, Bytes, head_text}
-use Rattle.ref_terms.specs.texts.Answer.{separated, term_line}
+use Rattle.ref_terms.specs.texts.Text.{Part, Bytes}
+use Rattle.ref_terms.specs.texts.Answer.{term_line}
 use Rattle.beta_fragment.specs.Names.{names}
 use Rattle.beta_fragment.specs.HeadForm.{all_read}
 

@@ -12,7 +12,7 @@ ghost use Rattle.beta_fragment.specs.Names.{names};
 ghost use Rattle.beta_fragment.specs.HeadForm.{IsAbstraction};
 ghost use Rattle.term_print.specs.Chains.{IsBelow, BodyIsKept};
 
-use beta_fragment::{whnf, Whnf};
+use beta_fragment::{Whnf, whnf};
 use level_terms::{Heap, Node, TermId};
 use std::alloc::{AllocError, Global};
 
@@ -81,7 +81,13 @@ fn stays(alloc: Global, heap: &mut Heap, node: TermId) -> Result<bool, AllocErro
 }
 
 /// Whether so many abstractions below one stay.
-fn are_kept(alloc: Global, heap: &mut Heap, lam: TermId, depth: usize, count: usize) -> Result<bool, AllocError>
+fn are_kept(
+    alloc: Global,
+    heap: &mut Heap,
+    lam: TermId,
+    depth: usize,
+    count: usize,
+) -> Result<bool, AllocError>
     requires { IsValid heap.old lam.index depth }
     ensures kept { IfOk result (λ r. IsTrue r → BodyIsKept heap.old lam count) }
     ensures grows { Grows heap.old heap.new [] [] }
@@ -95,7 +101,12 @@ fn are_kept(alloc: Global, heap: &mut Heap, lam: TermId, depth: usize, count: us
 
 /// So many abstractions below one that stay. Where all of the chain do, it is all; else at least
 /// half of those that do.
-pub(crate) fn kept_below(alloc: Global, heap: &mut Heap, lam: TermId, depth: usize) -> Result<usize, AllocError>
+pub(crate) fn kept_below(
+    alloc: Global,
+    heap: &mut Heap,
+    lam: TermId,
+    depth: usize,
+) -> Result<usize, AllocError>
     requires { IsValid heap.old lam.index depth }
     ensures kept { IfOk result (λ count. BodyIsKept heap.new lam count) }
     ensures grows { Grows heap.old heap.new [] [] }

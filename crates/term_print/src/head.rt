@@ -48,7 +48,12 @@ fn name_text(alloc: Global, base: usize, level: usize) -> Result<String, AllocEr
 }
 
 /// Writes a name.
-fn write_name(alloc: Global, base: usize, level: usize, out: &mut ByteText) -> Result<(), AllocError>
+fn write_name(
+    alloc: Global,
+    base: usize,
+    level: usize,
+    out: &mut ByteText,
+) -> Result<(), AllocError>
     ensures ok { OnOk result (out.new ≡ out.old ++ name_bytes base level) }
     ensures err { OnErr result (out.new ≡ out.old) }
 {
@@ -121,7 +126,12 @@ pub(crate) fn write_head(
 }
 
 /// Writes a variable.
-pub(crate) fn write_variable(alloc: Global, namer: &mut Namer, v: VarId, out: &mut ByteText) -> Result<(), AllocError>
+pub(crate) fn write_variable(
+    alloc: Global,
+    namer: &mut Namer,
+    v: VarId,
+    out: &mut ByteText,
+) -> Result<(), AllocError>
     ensures ok { OnOk result (out.new ≡ out.old ++ 63 ∷ decimal (place_of v.index namer.old)) }
     ensures seen { OnOk result (namer.new ≡ seen_also v.index namer.old) }
     ensures err { OnErr result (out.new ≡ out.old) }
@@ -132,7 +142,11 @@ pub(crate) fn write_variable(alloc: Global, namer: &mut Namer, v: VarId, out: &m
 }
 
 /// Writes the front of an abstraction below so many others.
-pub(crate) fn write_binder(alloc: Global, depth: usize, out: &mut ByteText) -> Result<(), AllocError>
+pub(crate) fn write_binder(
+    alloc: Global,
+    depth: usize,
+    out: &mut ByteText,
+) -> Result<(), AllocError>
     ensures ok { OnOk result (out.new ≡ out.old ++ binder_bytes depth) }
     ensures err { OnErr result (out.new ≡ out.old) }
 {

@@ -1,7 +1,8 @@
 //! Printed forms of terms and of sequents.
 //!
-//! A term is printed from the left by a list of pieces, so that its depth takes no stack. A node's
-//! head is looked at once, and each byte is written once.
+//! A term is printed from the left by a list of pieces, so that its depth takes no stack. The time is
+//! that of what is written and of looking at each head once: a chain of abstractions, each the body of
+//! the one before, is looked at as a whole.
 #![tactic(auto)]
 
 mod chain;
@@ -10,13 +11,10 @@ mod namer;
 mod piece;
 mod print;
 mod sequent;
-
 mod step;
-
-
+#[cfg(test)]
+mod tests;
 
 pub use namer::Namer;
 pub use print::print_term;
 pub use sequent::print_sequent;
-
-

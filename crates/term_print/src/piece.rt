@@ -18,7 +18,13 @@ pub(crate) enum Piece {
         kept: usize,
     },
     /// A term in its inner form.
-    Inner { node: TermId, depth: usize },
+    Inner {
+        node: TermId,
+        depth: usize,
+    },
     /// A space, and a term in its inner form.
-    Argument { node: TermId, depth: usize },
+    Argument {
+        node: TermId,
+        depth: usize,
+    },
 }

@@ -22,7 +22,7 @@ use crate::chain::kept_below;
 use crate::head::{is_infix, write_binder, write_head, write_infix, write_variable};
 use crate::namer::Namer;
 use crate::piece::Piece;
-use beta_fragment::{contract, enter, whnf, RigidHead, Whnf};
+use beta_fragment::{RigidHead, Whnf, contract, enter, whnf};
 use lam_io::ByteText;
 use level_terms::{Heap, Node, TermId, VarId};
 use lp_resolve::Symbols;
@@ -110,7 +110,12 @@ fn body_at(alloc: Global, heap: &mut Heap, lam: TermId, depth: usize) -> Result<
 }
 
 /// The same of an abstraction that was made further out.
-fn body_copied(alloc: Global, heap: &mut Heap, lam: TermId, depth: usize) -> Result<TermId, AllocError>
+fn body_copied(
+    alloc: Global,
+    heap: &mut Heap,
+    lam: TermId,
+    depth: usize,
+) -> Result<TermId, AllocError>
     requires lam { ReadsAsLam heap.old lam.index depth }
     requires room { depth < 2 ^ 64 - 1 }
     ensures reads { IfOk result (λ r. (b : Term) → read heap.old lam.index names ≡ lam_term b → read heap.new r.index names ≡ sub (first (names depth)) b) }
@@ -278,9 +283,27 @@ fn write_form(
 {
     match form {
         Whnf::Lam(lam) => write_seen_lam(alloc, heap, base, *lam, depth, work, out),
-        Whnf::Rigid(head, args) => write_rigid(alloc, symbols, base, *head, args.as_slice(), depth, work, out),
+        Whnf::Rigid(head, args) => write_rigid(
+            alloc,
+            symbols,
+            base,
+            *head,
+            args.as_slice(),
+            depth,
+            work,
+            out,
+        ),
         Whnf::Flex(v, args) => write_flex(alloc, namer, *v, args.as_slice(), depth, work, out),
-        Whnf::Redex(lam, args) => write_redex(alloc, heap, base, *lam, args.as_slice(), depth, work, out),
+        Whnf::Redex(lam, args) => write_redex(
+            alloc,
+            heap,
+            base,
+            *lam,
+            args.as_slice(),
+            depth,
+            work,
+            out,
+        ),
     }
 }
 
@@ -401,9 +424,15 @@ pub(crate) fn write_piece(
             Ok(())
         }
         Piece::Infix(c) => write_infix(symbols, c, out),
-        Piece::Top { node, depth, kept } if kept > 0 => write_kept(alloc, heap, base, node, depth, kept, work, out),
-        Piece::Top { node, depth, .. } => write_top(alloc, heap, symbols, base, node, depth, work, namer, out),
-        Piece::Inner { node, depth } => write_inner(alloc, heap, symbols, base, node, depth, work, namer, out),
+        Piece::Top { node, depth, kept } if kept > 0 => write_kept(
+            alloc, heap, base, node, depth, kept, work, out,
+        ),
+        Piece::Top { node, depth, .. } => write_top(
+            alloc, heap, symbols, base, node, depth, work, namer, out,
+        ),
+        Piece::Inner { node, depth } => write_inner(
+            alloc, heap, symbols, base, node, depth, work, namer, out,
+        ),
         Piece::Argument { node, depth } => {
             out.push(b' ')?;
             write_inner(alloc, heap, symbols, base, node, depth, work, namer, out)

@@ -1,4 +1,4 @@
-use Rattle.std.proofs.Common.{◌≡◌, []}
+use Rattle.std.proofs.Common.{[]}
 use Rattle.level_terms.proofs.GrowthLemmas.{grows-refl}
 use Rattle.beta_fragment.proofs.ReadLemmas.{valid-below}
 use Rattle.term_print.proofs.ChainLemmas.{below-made, body-kept}

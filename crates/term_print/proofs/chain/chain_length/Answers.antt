@@ -1,4 +1,4 @@
-use Rattle.std.proofs.Common.{◌≡◌, ◌<◌, Some, ap, ◌∙◌, arith, length}
+use Rattle.std.proofs.Common.{Some, ap, ◌∙◌, arith}
 use Rattle.term_print.proofs.ChainLemmas.{body-older}
 use Rattle.term_print.proofs.chain.chain_length.Goals as goal
 

@@ -1,4 +1,4 @@
-use Rattle.std.proofs.Common.{◌≤◌, ◌<◌, length}
+use Rattle.std.proofs.Common.{◌<◌, length}
 use Rattle.term_print.proofs.chain.chain_length.Given as goal
 
 abbrev pub invariant-loop-count : goal.invariant-loop-count

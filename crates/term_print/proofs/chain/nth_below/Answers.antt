@@ -1,4 +1,4 @@
-use Rattle.std.proofs.Common.{◌≡◌, ◌<◌, Some, ap, ◌∙◌, arith, length, refl}
+use Rattle.std.proofs.Common.{Some, ap, ◌∙◌, arith}
 use Rattle.term_print.proofs.ChainLemmas.{body-older, below-step}
 use Rattle.term_print.proofs.chain.nth_below.Goals as goal
 

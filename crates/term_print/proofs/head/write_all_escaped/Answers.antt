@@ -1,6 +1,3 @@
-use Rattle.std.proofs.Common.{◌≡◌, ◌++◌, List, ℕ, take, drop, sym, ap, ◌∙◌}
-use Rattle.std.specs.Prelude.{flat_map}
-use Rattle.ref_terms.specs.texts.Text.{escaped}
 use Rattle.term_print.proofs.WrittenLemmas.{gains-map, on-err}
 use Rattle.term_print.proofs.head.write_all_escaped.Goals as goal
 

@@ -1,4 +1,4 @@
-use Rattle.std.proofs.Common.{◌≡◌, ◌++◌, ◌∷◌, []}
+use Rattle.std.proofs.Common.{◌++◌, ◌∷◌, []}
 use Rattle.std.specs.Prelude.{flat_map}
 use Rattle.ref_terms.specs.texts.Text.{escaped}
 use Rattle.term_print.proofs.WrittenLemmas.{gains-later, gains-front, on-err}

@@ -1,4 +1,4 @@
-use Rattle.std.proofs.Common.{◌≡◌, [], ◌<◌, ◌-◌, get_or, length, take, drop, arith, refl, sym, ap, ◌∙◌, subst, List, ℕ}
+use Rattle.std.proofs.Common.{[], get_or, drop, arith, refl, sym, ap, ◌∙◌, subst, List}
 use Rattle.level_terms.specs.declared.node.TermId.{TermId}
 use Rattle.level_terms.specs.Reading.{read}
 use Rattle.level_terms.proofs.GrowthLemmas.{grows-refl, grows-trans}
@@ -24,17 +24,17 @@ print_more-requires c =
 pub returns-clause-prints : goal.returns-clause-prints
 returns-clause-prints c = on-ok c.print_more.result
     (λ w. first-printed c.args.symbols.now c.args.heap.now c.args.terms.now (record { index = 0 }) (read c.args.heap.now (get_or c.args.terms.now 0 (record { index = 0 })).index names) _ c.args.out.now c.args.namer.now c.print_term.new.out c.print_term.new.namer
-      (page c.print_more.new.out c.print_more.new.namer) (omega (arith, c.if-terms-eq0.false)) refl
-      (ap (all_read c.print_term.new.heap) (take-tail c.args.terms.now) ∙ all-read-grown c.args.heap.now c.print_term.new.heap c.is_sound.ensures c.print_term.ensures.grows (drop 1 c.args.terms.now) c.args.depth (valid-drop c.args.heap.now c.args.terms.now c.args.depth 1 c.requires))
-      c.in_ok-print_term.ensures.text c.in_ok-print_term.ensures.seen w)
+    (page c.print_more.new.out c.print_more.new.namer) (omega (arith, c.if-terms-eq0.false)) refl
+    (ap (all_read c.print_term.new.heap) (take-tail c.args.terms.now) ∙ all-read-grown c.args.heap.now c.print_term.new.heap c.is_sound.ensures c.print_term.ensures.grows (drop 1 c.args.terms.now) c.args.depth (valid-drop c.args.heap.now c.args.terms.now c.args.depth 1 c.requires))
+    c.in_ok-print_term.ensures.text c.in_ok-print_term.ensures.seen w)
     c.print_more.ensures.prints
 
 pub returns-clause-stops : goal.returns-clause-stops
 returns-clause-stops c = on-err_from c.print_more.result
     (λ w. first-stopped c.args.symbols.now c.args.heap.now c.args.terms.now (record { index = 0 }) (read c.args.heap.now (get_or c.args.terms.now 0 (record { index = 0 })).index names) _ c.args.out.now c.args.namer.now c.print_term.new.out c.print_term.new.namer
-      c.print_more.new.out (omega (arith, c.if-terms-eq0.false)) refl
-      (ap (all_read c.print_term.new.heap) (take-tail c.args.terms.now) ∙ all-read-grown c.args.heap.now c.print_term.new.heap c.is_sound.ensures c.print_term.ensures.grows (drop 1 c.args.terms.now) c.args.depth (valid-drop c.args.heap.now c.args.terms.now c.args.depth 1 c.requires))
-      c.in_ok-print_term.ensures.text c.in_ok-print_term.ensures.seen w)
+    c.print_more.new.out (omega (arith, c.if-terms-eq0.false)) refl
+    (ap (all_read c.print_term.new.heap) (take-tail c.args.terms.now) ∙ all-read-grown c.args.heap.now c.print_term.new.heap c.is_sound.ensures c.print_term.ensures.grows (drop 1 c.args.terms.now) c.args.depth (valid-drop c.args.heap.now c.args.terms.now c.args.depth 1 c.requires))
+    c.in_ok-print_term.ensures.text c.in_ok-print_term.ensures.seen w)
     c.print_more.ensures.stops
 
 pub returns-clause-grows : goal.returns-clause-grows

@@ -1,4 +1,4 @@
-use Rattle.std.proofs.Common.{◌≡◌, ◌<◌, ◌-◌, ◌++◌, ◌∷◌, [], arith}
+use Rattle.std.proofs.Common.{◌-◌, ◌∷◌, [], arith}
 use Rattle.term_print.specs.Sequents.{names_bytes, more_names}
 use Rattle.term_print.proofs.SequentLemmas.{wrote-first, names-first}
 use Rattle.term_print.proofs.sequent.write_names.Goals as goal

@@ -1,6 +1,4 @@
-use Rattle.std.proofs.Common.{◌≡◌, ◌+◌, ◌<◌, ◌≤◌, [], sym, ap, ◌∙◌, subst, arith}
-use Rattle.level_terms.specs.Graph.{node_at}
-use Rattle.level_terms.specs.Valid.{IsValid}
+use Rattle.std.proofs.Common.{◌+◌, [], sym, subst, arith}
 use Rattle.level_terms.proofs.GrowthLemmas.{grows-trans}
 use Rattle.level_terms.proofs.ValidLemmas.{growth_keeps_valid, valid_deeper}
 use Rattle.beta_fragment.specs.Body.{IsLam}
@@ -24,7 +22,7 @@ contract-requires-clause-argument c = level-valid c.args.heap.now c.level.new.se
 pub returns-clause-reads : goal.returns-clause-reads
 returns-clause-reads c = if-ok c.contract.result
     (λ r f. copied-reads c.args.heap.now c.level.new.self c.contract.new.heap c.is_sound.ensures c.is_sound-2.ensures c.level.ensures.grows c.args.lam c.in_ok-name.name r c.args.depth c.requires.lam.node c.requires.lam.valid
-      (level-reads c.args.heap.now c.level.new.self c.args.depth c.in_ok-name.name c.is_sound-2.ensures c.in_ok-name.ensures.ok.0 c.in_ok-name.ensures.ok.1) f)
+    (level-reads c.args.heap.now c.level.new.self c.args.depth c.in_ok-name.name c.is_sound-2.ensures c.in_ok-name.ensures.ok.0 c.in_ok-name.ensures.ok.1) f)
     c.contract.ensures.reads
 
 pub returns-clause-grows : goal.returns-clause-grows

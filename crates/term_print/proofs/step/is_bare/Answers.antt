@@ -1,4 +1,4 @@
-use Rattle.std.proofs.Common.{◌≡◌, ℕ, nat_eq, sym, ap, ◌∙◌}
+use Rattle.std.proofs.Common.{ℕ, nat_eq, sym, ap, ◌∙◌}
 use Rattle.term_print.proofs.LookLemmas.{bare-is, bare_form}
 use Rattle.term_print.proofs.step.is_bare.Goals as goal
 

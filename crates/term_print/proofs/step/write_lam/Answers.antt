@@ -1,4 +1,4 @@
-use Rattle.std.proofs.Common.{◌≡◌, ◌+◌, ◌-◌, ◌++◌, ◌∷◌, [], List, reverse, sym, ap, ◌∙◌, subst}
+use Rattle.std.proofs.Common.{[]}
 use Rattle.level_terms.specs.Reading.{read}
 use Rattle.level_terms.proofs.GrowthLemmas.{grows-refl}
 use Rattle.beta_fragment.specs.Names.{names}
@@ -15,8 +15,8 @@ returns-in_err-inside-clause-grows c = grows-refl c.args.heap.now []
 pub returns-clause-prints : goal.returns-clause-prints
 returns-clause-prints c = on-ok c.write_binder.result
     (λ e table seen. lam-printed table c.args.base c.args.heap.now c.body_at.new.heap c.is_sound.ensures c.body_at.ensures.grows c.args.depth c.args.work.now.items c.push.new.self.items
-      c.requires.deep c.requires.pieces (read c.args.heap.now c.args.lam.index names) c.requires.lam.reads c.in_ok-node.node c.in_ok-inside.inside c.kept_from-kept.result c.in_ok-inside.ensures c.kept_from-kept.ensures c.in_ok-node.ensures.valid c.in_ok-node.ensures.reads c.in_ok-push.ensures.items
-      c.args.out.now c.write_binder.new.out seen e)
+    c.requires.deep c.requires.pieces (read c.args.heap.now c.args.lam.index names) c.requires.lam.reads c.in_ok-node.node c.in_ok-inside.inside c.kept_from-kept.result c.in_ok-inside.ensures c.kept_from-kept.ensures c.in_ok-node.ensures.valid c.in_ok-node.ensures.reads c.in_ok-push.ensures.items
+    c.args.out.now c.write_binder.new.out seen e)
     c.write_binder.ensures.ok
 
 pub kept_from-kept-requires-clause-there : goal.kept_from-kept-requires-clause-there

@@ -1,4 +1,4 @@
-use Rattle.std.proofs.Common.{◌≡◌, [], ◌∷◌, reverse, sym, subst}
+use Rattle.std.proofs.Common.{[], ◌∷◌, reverse, sym, subst}
 use Rattle.term_print.specs.Pieces.{page, work_parts}
 use Rattle.term_print.specs.Written.{Stops}
 use Rattle.term_print.specs.declared.piece.Piece.{Piece}
@@ -22,5 +22,5 @@ returns-in-Infix-clause-grows c = grows-refl c.args.heap.now []
 pub returns-in-Infix-clause-stops : goal.returns-in-Infix-clause-stops
 returns-in-Infix-clause-stops c = on-err_from c.write_infix.result
     (λ s. subst (λ (p : Piece). Stops (page c.args.out.now c.args.namer.now) (work_parts c.args.symbols.now c.args.base c.args.heap.now (p ∷ reverse c.args.work.now.items)) c.write_infix.new.out) (sym c.in-Infix.is)
-      (infix-stopped c.args.symbols.now c.args.base c.args.heap.now c.in-Infix.c (reverse c.args.work.now.items) c.args.out.now c.args.namer.now c.write_infix.new.out s))
+    (infix-stopped c.args.symbols.now c.args.base c.args.heap.now c.in-Infix.c (reverse c.args.work.now.items) c.args.out.now c.args.namer.now c.write_infix.new.out s))
     c.write_infix.ensures.err

@@ -1,10 +1,9 @@
-use Rattle.std.proofs.Common.{◌≡◌, ◌++◌, ◌∷◌, [], List, reverse, sym, ◌∙◌, subst}
+use Rattle.std.proofs.Common.{[], List, reverse, sym, ◌∙◌, subst}
 use Rattle.level_terms.specs.Reading.{read}
 use Rattle.level_terms.proofs.GrowthLemmas.{grows-refl}
 use Rattle.beta_fragment.specs.Names.{names}
-use Rattle.term_print.specs.Pieces.{ArePieces, argument_pieces}
+use Rattle.term_print.specs.Pieces.{ArePieces}
 use Rattle.term_print.specs.declared.piece.Piece.{Piece}
-use Rattle.term_print.specs.declared.piece.Piece.TheVariants.{Close}
 use Rattle.term_print.proofs.StepLemmas.{redex-printed, redex-stops, args-pieces, pushed-redex}
 use Rattle.term_print.proofs.WrittenLemmas.{on-ok, on-err_from}
 use Rattle.term_print.proofs.step.write_redex.Goals as goal
@@ -26,7 +25,7 @@ write_seen_lam-requires-clause-pieces c =
 pub returns-clause-prints : goal.returns-clause-prints
 returns-clause-prints c = on-ok c.write_seen_lam.result
     (λ f table seen. redex-printed table c.args.base c.args.heap.now c.write_seen_lam.new.heap c.args.depth c.args.work.now.items c.push_arguments.new.work.items c.push.new.self.items (read c.args.heap.now c.args.lam.index names) c.args.out.now c.push-2.new.self c.write_seen_lam.new.out seen c.args.args.now
-      c.requires.lam.reads c.requires.unready (reverse c.write_seen_lam.new.work.items) c.in_ok-push_arguments.ensures c.in_ok-push.ensures.items c.in_ok-push-2.ensures.ok (f table seen))
+    c.requires.lam.reads c.requires.unready (reverse c.write_seen_lam.new.work.items) c.in_ok-push_arguments.ensures c.in_ok-push.ensures.items c.in_ok-push-2.ensures.ok (f table seen))
     c.write_seen_lam.ensures.prints
 
 pub returns-clause-stops : goal.returns-clause-stops

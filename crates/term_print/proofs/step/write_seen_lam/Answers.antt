@@ -1,14 +1,8 @@
-use Rattle.std.proofs.Common.{◌≡◌, [], reverse, sym, ap, subst}
-use Rattle.level_terms.specs.Graph.{node_at}
+use Rattle.std.proofs.Common.{[], reverse, sym}
 use Rattle.level_terms.specs.Reading.{read}
 use Rattle.level_terms.proofs.GrowthLemmas.{grows-trans}
-use Rattle.level_terms.proofs.ValidLemmas.{growth_keeps_valid}
-use Rattle.ref_terms.specs.terms.Term.{Term}
 use Rattle.ref_terms.specs.texts.Text.{top}
-use Rattle.beta_fragment.specs.Body.{IsLam}
 use Rattle.beta_fragment.specs.Names.{names}
-use Rattle.beta_fragment.specs.HeadForm.{IsAbstraction}
-use Rattle.beta_fragment.proofs.ReadLemmas.{valid-below}
 use Rattle.term_print.proofs.LookLemmas.{lam-grown}
 use Rattle.term_print.proofs.SequentLemmas.{one-read-grown}
 use Rattle.term_print.proofs.StepLemmas.{pieces-grown, looked-leaves}
@@ -24,7 +18,7 @@ write_lam-requires-clause-pieces c = pieces-grown c.args.heap.now c.kept_below.n
 pub returns-clause-prints : goal.returns-clause-prints
 returns-clause-prints c = on-ok c.write_lam.result
     (λ w table seen. looked-leaves table c.args.base top c.args.heap.now c.kept_below.new.heap c.write_lam.new.heap c.is_sound.ensures c.kept_below.ensures.grows (read c.args.heap.now c.args.lam.index names) (read c.kept_below.new.heap c.args.lam.index names)
-      (sym (one-read-grown c.args.heap.now c.kept_below.new.heap c.is_sound.ensures c.kept_below.ensures.grows c.args.lam c.args.depth c.requires.lam.valid)) c.args.depth (reverse c.args.work.now.items) c.requires.pieces _ _ _ (w table seen))
+    (sym (one-read-grown c.args.heap.now c.kept_below.new.heap c.is_sound.ensures c.kept_below.ensures.grows c.args.lam c.args.depth c.requires.lam.valid)) c.args.depth (reverse c.args.work.now.items) c.requires.pieces _ _ _ (w table seen))
     c.write_lam.ensures.prints
 
 pub returns-clause-grows : goal.returns-clause-grows

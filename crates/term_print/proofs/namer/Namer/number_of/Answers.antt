@@ -1,4 +1,4 @@
-use Rattle.std.proofs.Common.{◌≡◌, sym, ◌∙◌, ap}
+use Rattle.std.proofs.Common.{sym, ◌∙◌, ap}
 use Rattle.ref_terms.specs.texts.Numbering.{place_of}
 use Rattle.term_print.proofs.NumberLemmas.{place-is}
 use Rattle.term_print.proofs.namer.Namer.number_of.Goals as goal
