@@ -12,8 +12,6 @@ mod piece;
 mod print;
 mod sequent;
 mod step;
-#[cfg(test)]
-mod tests;
 
 pub use namer::Namer;
 pub use print::print_term;
