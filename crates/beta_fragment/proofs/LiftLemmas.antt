@@ -1,0 +1,30 @@
+-- Names that a list renames.
+use Rattle.std.proofs.Common.{◌≡◌, ℕ, zero, suc, ◌<◌, ◌≤◌, ◌-◌, ◌+◌, List, [], ◌∷◌, length, take, slice_index, cond, nat_lt, Bool, true, refl, sym, ap, ◌∙◌, arith}
+use Rattle.level_terms.specs.Graph.{Graph}
+use Rattle.level_terms.specs.Valid.{IsValid}
+use Rattle.level_terms.specs.Reading.{read}
+use Rattle.level_terms.proofs.LocalLemmas.{readings_local}
+use Rattle.ref_terms.specs.terms.Term.{Term, At, Name}
+use Rattle.beta_fragment.specs.Names.{names, renamed}
+use Rattle.beta_fragment.specs.Moves.{Value, Moves, moved, moved_level}
+use Rattle.beta_fragment.proofs.EnterLemmas.{names-places}
+use Rattle.beta_fragment.proofs.MoveLemmas.{below_true}
+
+take-long : (ns : List ℕ) (n : ℕ) → n ≤ length ns → length (take n ns) ≡ n
+take-long ns zero h = refl
+take-long [] (suc n) h = absurd (omega (arith, h))
+take-long (x ∷ ns) (suc n) h = ap suc (take-long ns n (omega (arith, h)))
+
+take-index : (ns : List ℕ) (n i : ℕ) → i < n → slice_index (take n ns) i ≡ slice_index ns i
+take-index ns zero i h = absurd (omega (arith, h))
+take-index [] (suc n) i h = refl
+take-index (x ∷ ns) (suc n) zero h = refl
+take-index (x ∷ ns) (suc n) (suc i) h = take-index ns n i (omega (arith, h))
+
+pub names-moved : (g : Graph) (ns : List ℕ) (n to t : ℕ) (x : Value) → n ≤ length ns → IsValid g t n → Moves g (take n ns) to t (length (take n ns)) (length (take n ns)) x → x.term names ≡ read g t (renamed ns)
+names-moved g ns n to t x few valid m = m.term names names-places ∙ readings_local g t n (moved (take n ns) (length (take n ns)) to names) (renamed ns) valid same
+  where
+    same : (i : ℕ) → i < n → moved (take n ns) (length (take n ns)) to names i ≡ renamed ns i
+    same i h =
+        let long = take-long ns n few in
+        ap names (ap (λ b. cond b (slice_index (take n ns) i) (i - length (take n ns) + to)) (below_true i (length (take n ns)) (omega (arith, h, long))) ∙ take-index ns n i h)

@@ -1,0 +1,80 @@
+use Rattle.std.proofs.Common.{◌≡◌, ℕ, ◌<◌, ◌∙◌, List, ap, sym, refl, subst, Some, length, [], arith, get_or}
+use Rattle.level_terms.specs.declared.node.Node.TheVariants.{App}
+use Rattle.level_terms.specs.declared.node.TermId.{TermId}
+use Rattle.level_terms.specs.Graph.{node_at}
+use Rattle.level_terms.specs.Reading.{read}
+use Rattle.beta_fragment.specs.Names.{names, renamed}
+use Rattle.beta_fragment.specs.HeadForm.{AllValidAt, rigid_head}
+use Rattle.ref_terms.specs.terms.Term as term
+use Rattle.ref_terms.specs.terms.Term.{At}
+use Rattle.std.proofs.lemmas.Int.{to_z-of_z}
+use Rattle.std.proofs.Common.{rules}
+use mir.Val.{SFits}
+use mir.Syntax.{w64}
+use Rattle.beta_fragment.specs.Spine.{args_in}
+use Rattle.level_terms.proofs.GrowthLemmas.{grows-refl}
+use Rattle.beta_fragment.proofs.ReadLemmas.{valid-below}
+use Rattle.beta_fragment.proofs.StayLemmas.{level-low}
+use Rattle.beta_fragment.proofs.TurnLemmas.{level-reads, leaf-reads, args-valid, app-turn-at}
+use Rattle.beta_fragment.proofs.head.one_turn.Goals as goal
+
+pub view-requires : goal.view-requires
+view-requires c = valid-below c.args.heap.now c.args.head.index (length c.args.levels.now.items) c.requires.valid
+
+pub rigid-requires : goal.rigid-requires
+rigid-requires c = record { head = leaf-reads c.args.heap.now c.args.head.index _ c.as_slice.result.now _ c.is_sound.ensures (c.view.ensures ∙ ap Some c.in-Con.is) refl }
+
+pub rigid-requires-in-Int : goal.rigid-requires-in-Int
+rigid-requires-in-Int c =
+    let fits : SFits w64 c.in-Int.n = search rules in
+    record { head = leaf-reads c.args.heap.now c.args.head.index _ c.as_slice-in-Int.result.now _ c.is_sound.ensures (c.view.ensures ∙ ap Some c.in-Int.is) (sym (ap (λ h. At (rigid_head h)) c.int_head-name.ensures ∙ ap (λ z. At (term.Int z)) (to_z-of_z w64 c.in-Int.n fits))) }
+
+pub rigid-requires-in-Str : goal.rigid-requires-in-Str
+rigid-requires-in-Str c = record { head = leaf-reads c.args.heap.now c.args.head.index _ c.as_slice-in-Str.result.now _ c.is_sound.ensures (c.view.ensures ∙ ap Some c.in-Str.is) refl }
+
+pub rigid-requires-in-Level : goal.rigid-requires-in-Level
+rigid-requires-in-Level c = record {
+  head = ap (λ (ls : List ℕ). read c.args.heap.now c.args.head.index (renamed ls)) c.as_slice-in-Level.ensures.value
+      ∙ level-reads c.args.heap.now c.args.head.index c.in-Level.l c.index.result.now c.args.levels.now.items c.is_sound.ensures (c.view.ensures ∙ ap Some c.in-Level.is) c.requires.valid c.index.ensures;
+}
+
+pub index-requires : goal.index-requires
+index-requires c =
+    let low = level-low c.args.heap.now c.args.head.index c.in-Level.l (length c.args.levels.now.items) c.is_sound.ensures (c.view.ensures ∙ ap Some c.in-Level.is) c.requires.valid in
+    omega (arith, low, c.args.levels.now.ok)
+
+pub push_args-requires-clause-there : goal.push_args-requires-clause-there
+push_args-requires-clause-there c = valid-below c.args.heap.now c.args.head.index (length c.args.levels.now.items) c.requires.valid
+
+pub push_args-requires-clause-valid : goal.push_args-requires-clause-valid
+push_args-requires-clause-valid c =
+    subst (λ (ls : List ℕ). AllValidAt c.args.heap.now (args_in (node_at c.args.heap.now.nodes c.args.head.index)) (length ls)) (sym c.as_slice-in-App.ensures.value)
+    (args-valid c.args.heap.now c.args.head.index (length c.args.levels.now.items) c.in-App.inner _ c.is_sound.ensures (c.view.ensures ∙ ap Some c.in-App.is) c.requires.valid)
+
+pub returns-in_ok-push_args-in-App-clause-turn : goal.returns-in_ok-push_args-in-App-clause-turn
+returns-in_ok-push_args-in-App-clause-turn c =
+    app-turn-at c.args.heap.now c.push_args.new.heap c.args.depth c.args.head.index c.in-App.inner _ c.args.levels.now.items c.as_slice-in-App.result.now c.args.fixed.now c.args.args.now.items c.push_args.new.args.items c.is_sound.ensures c.push_args.ensures.grows (c.view.ensures ∙ ap Some c.in-App.is) c.requires.valid c.requires.moves c.as_slice-in-App.ensures.value c.in_ok-push_args-in-App.ensures.reads c.in_ok-push_args-in-App.ensures.valid
+
+pub returns-in_err-form-in-Con-clause-grows : goal.returns-in_err-form-in-Con-clause-grows
+returns-in_err-form-in-Con-clause-grows c = grows-refl c.args.heap.now []
+
+pub returns-in_ok-form-in-Con-clause-grows : goal.returns-in_ok-form-in-Con-clause-grows
+returns-in_ok-form-in-Con-clause-grows c = grows-refl c.args.heap.now []
+
+pub returns-in_err-form-in-Int-clause-grows : goal.returns-in_err-form-in-Int-clause-grows
+returns-in_err-form-in-Int-clause-grows c = grows-refl c.args.heap.now []
+
+pub returns-in_ok-form-in-Int-clause-grows : goal.returns-in_ok-form-in-Int-clause-grows
+returns-in_ok-form-in-Int-clause-grows c = grows-refl c.args.heap.now []
+
+pub returns-in_err-form-in-Str-clause-grows : goal.returns-in_err-form-in-Str-clause-grows
+returns-in_err-form-in-Str-clause-grows c = grows-refl c.args.heap.now []
+
+pub returns-in_ok-form-in-Str-clause-grows : goal.returns-in_ok-form-in-Str-clause-grows
+returns-in_ok-form-in-Str-clause-grows c = grows-refl c.args.heap.now []
+
+pub returns-in_err-form-in-Level-clause-grows : goal.returns-in_err-form-in-Level-clause-grows
+returns-in_err-form-in-Level-clause-grows c = grows-refl c.args.heap.now []
+
+pub returns-in_ok-form-in-Level-clause-grows : goal.returns-in_ok-form-in-Level-clause-grows
+returns-in_ok-form-in-Level-clause-grows c = grows-refl c.args.heap.now []

@@ -1,0 +1,11 @@
+-- Nodes as heads, and the arguments of applications.
+use Rattle.std.specs.Prelude.{◌≡◌, List, [], Option, Some, None}
+use Rattle.level_terms.specs.declared.node.Node.{Node}
+use Rattle.level_terms.specs.declared.node.Node.TheVariants.{Con, Int, Str, Level, Lam, App, Var}
+use Rattle.level_terms.specs.declared.node.TermId.{TermId}
+use Rattle.ref_terms.specs.terms.Term as term
+
+-- the arguments of an application
+abbrev pub args_in : Option Node → List TermId
+args_in (Some (App h ts)) = ts
+args_in _ = []
