@@ -19,3 +19,4 @@ pub mod PutWork
 pub mod FilledLemmas
 pub mod LevelLemmas
 pub mod CellLemmas
+pub mod LevelListLemmas

@@ -13,6 +13,7 @@ mod equality;
 mod evaluating;
 mod glance;
 mod head;
+mod levels;
 mod opening;
 mod putting;
 mod quoting;

@@ -22,6 +22,7 @@ ghost use Rattle.level_terms.specs.declared.node.Node.TheVariants.{Lam as lam_no
 ghost use Rattle.beta_fragment.specs.declared.renaming.Task.TheVariants.{Visit as visit_task, Lam as lam_task, App as app_task};
 
 use crate::answer::Names;
+use crate::levels::Levels;
 use level_terms::{Heap, Node, TermId, VarId};
 use std::alloc::{AllocError, Global};
 
@@ -56,7 +57,8 @@ pub fn lift(
 {
     let names = &names.as_slice()[..from];
     let fixed = fixed_names(names);
-    moved_node(alloc, heap, names, fixed, to, t)
+    let levels = Levels::of(alloc, names)?;
+    moved_node(alloc, heap, &levels, fixed, to, t)
 }
 
 /// How many of the names stay, from the first one on.
@@ -141,12 +143,12 @@ pub(crate) fn made_lam(heap: &mut Heap, depth: usize, body: TermId) -> Result<Te
 }
 
 /// Where a level goes. Levels are numbered by 64 bits; `AllocError` where they are used up.
-fn level_after(names: &[usize], base: usize, to: usize, level: usize) -> Result<usize, AllocError>
+fn level_after(names: &Levels, base: usize, to: usize, level: usize) -> Result<usize, AllocError>
     requires { base ≤ length names.now }
     ensures { IfOk result (λ l. l ≡ moved_level names.now base to level) }
 {
     if level < base {
-        return Ok(names[level]);
+        return Ok(names.name(level));
     }
     sum_of(level - base, to)
 }
@@ -172,7 +174,7 @@ pub(crate) fn made_level(heap: &mut Heap, level: usize) -> Result<TermId, AllocE
 /// Does a task that visits a level.
 fn visit_level(
     heap: &mut Heap,
-    names: &[usize],
+    names: &Levels,
     to: usize,
     node: TermId,
     base: usize,
@@ -197,7 +199,7 @@ fn visit_level(
 /// Does a task that visits an abstraction.
 fn visit_lam(
     heap: &Heap,
-    names: &[usize],
+    names: &Levels,
     to: usize,
     node: TermId,
     base: usize,
@@ -243,7 +245,7 @@ pub(crate) fn push_visits(
 /// Does a task that visits an application.
 fn visit_app(
     heap: &Heap,
-    names: &[usize],
+    names: &Levels,
     to: usize,
     node: TermId,
     base: usize,
@@ -299,7 +301,7 @@ pub(crate) fn made_var(heap: &mut Heap, v: VarId) -> Result<TermId, AllocError>
 pub(crate) fn moved_levels(
     alloc: Global,
     heap: &mut Heap,
-    names: &[usize],
+    names: &Levels,
     base: usize,
     to: usize,
     depth: usize,
@@ -324,7 +326,7 @@ pub(crate) fn moved_levels(
 fn moved_var(
     alloc: Global,
     heap: &mut Heap,
-    names: &[usize],
+    names: &Levels,
     base: usize,
     to: usize,
     v: VarId,
@@ -349,7 +351,7 @@ fn moved_var(
 /// levels stay.
 fn visit_kept(
     heap: &Heap,
-    names: &[usize],
+    names: &Levels,
     fixed: usize,
     to: usize,
     node: TermId,
@@ -375,7 +377,7 @@ fn visit_kept(
 fn visit_var(
     alloc: Global,
     heap: &mut Heap,
-    names: &[usize],
+    names: &Levels,
     to: usize,
     node: TermId,
     base: usize,
@@ -411,7 +413,7 @@ fn visit_var(
 fn visit(
     alloc: Global,
     heap: &mut Heap,
-    names: &[usize],
+    names: &Levels,
     fixed: usize,
     to: usize,
     node: TermId,
@@ -518,7 +520,7 @@ pub(crate) fn make_app(
 fn step(
     alloc: Global,
     heap: &mut Heap,
-    names: &[usize],
+    names: &Levels,
     fixed: usize,
     to: usize,
     task: Task,
@@ -553,7 +555,7 @@ pub(crate) fn first_task(alloc: Global, node: TermId, base: usize) -> Result<Vec
 pub(crate) fn moved_node(
     alloc: Global,
     heap: &mut Heap,
-    names: &[usize],
+    names: &Levels,
     fixed: usize,
     to: usize,
     t: TermId,
