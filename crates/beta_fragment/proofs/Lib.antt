@@ -20,3 +20,5 @@ pub mod FilledLemmas
 pub mod LevelLemmas
 pub mod CellLemmas
 pub mod LevelListLemmas
+pub mod QuotableLemmas
+pub mod SettledLemmas

@@ -9,3 +9,4 @@ pub mod Turn
 pub mod Cells
 pub mod Quoted
 pub mod LevelList
+pub mod Settled

@@ -24,12 +24,12 @@ ghost use Rattle.beta_fragment.specs.Turn.{IsTurn, NoneReady, IsFirst};
 use crate::answer::{RigidHead, Whnf};
 use crate::glance::{Readiness, bare_var_of, is_abstraction, looked_at};
 use crate::renaming::{made_lam, moved_levels, moved_node, sum_of};
+use crate::settling::settled;
 use level_terms::{Heap, Node, TermId, TermIds, VarId};
 use std::alloc::{AllocError, Global};
 
 /// What the term is: an abstraction exactly where it reads as one, and else its head with all its
-/// arguments. Answers `AllocError` on want of memory, and still where a look can't tell whether an
-/// abstraction is contracted or an argument is ready.
+/// arguments. Answers `AllocError` on want of memory alone.
 pub fn whnf(alloc: Global, heap: &mut Heap, t: TermId, depth: usize) -> Result<Whnf, AllocError>
     requires { IsValid heap.old t.index depth }
     ensures form { IfOk result (λ w. IsHeadForm heap.new depth (read heap.old t.index names) w) }
@@ -114,7 +114,11 @@ fn push_args(
 }
 
 /// The nodes of the first list, and then those of the second from its last one on.
-fn in_order(alloc: Global, first: &[TermId], stack: &[TermId]) -> Result<TermIds, AllocError>
+pub(crate) fn in_order(
+    alloc: Global,
+    first: &[TermId],
+    stack: &[TermId],
+) -> Result<TermIds, AllocError>
     ensures { IfOk result (λ list. list ≡ first.now ++ reverse stack.now) }
 {
     let mut list = TermIds::from_slice(alloc, first)?;
@@ -250,6 +254,7 @@ fn held(
     requires here { node_at heap.old.nodes t.index ≡ Some (lam_node made body) }
     requires valid { IsValid heap.old t.index (length levels.old.items) }
     requires moves { IsMove levels.old.items fixed depth }
+    requires args { AllValidAt heap.old (reverse args.now) depth }
     requires unready { NoneReady heap.old (reverse args.now) }
     ensures form { IfOk result (λ w. (u : Term) → IsSpine heap.old depth u t.index levels.old.items args.now → IsHeadForm heap.new depth u w) }
     ensures grows { Grows heap.old heap.new [] [] }
@@ -260,7 +265,7 @@ fn held(
     }
     match bare_var_of(heap, t, made) {
         Some(v) => flex(alloc, heap, t, v, made, levels.as_slice(), depth, args),
-        None => Err(AllocError),
+        None => settled(alloc, heap, t, levels.as_slice(), args, depth),
     }
 }
 
@@ -306,7 +311,17 @@ fn turn_lam(
             )?;
             Ok(Turn::Ends(form))
         }
-        Readiness::Unknown => Err(AllocError),
+        Readiness::Unknown => {
+            let form = settled(
+                alloc,
+                heap,
+                head,
+                levels.as_slice(),
+                args.as_slice(),
+                depth,
+            )?;
+            Ok(Turn::Ends(form))
+        }
     }
 }
 

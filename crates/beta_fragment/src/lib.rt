@@ -18,6 +18,7 @@ mod opening;
 mod putting;
 mod quoting;
 mod renaming;
+mod settling;
 mod taking;
 
 pub use answer::{Names, RigidHead, UnifyStop, Whnf};

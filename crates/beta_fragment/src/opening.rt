@@ -1,6 +1,6 @@
 //! The body of an abstraction, with a term for its own name.
 
-ghost use Rattle.std.specs.Prelude.{◌≡◌, ◌<◌, ◌≤◌, ℕ, [], Some, IfOk};
+ghost use Rattle.std.specs.Prelude.{◌≡◌, ◌+◌, ◌<◌, ◌≤◌, ℕ, [], Some, IfOk};
 ghost use Rattle.level_terms.specs.declared.node.TermId.{TermId as Id};
 ghost use Rattle.level_terms.specs.declared.node.Node.TheVariants.{Lam as lam_node};
 ghost use Rattle.level_terms.specs.Graph.{node_at};
@@ -8,18 +8,22 @@ ghost use Rattle.level_terms.specs.Valid.{IsValid};
 ghost use Rattle.level_terms.specs.Reading.{read};
 ghost use Rattle.level_terms.specs.Growth.{Grows};
 ghost use Rattle.beta_fragment.specs.Names.{names};
+ghost use Rattle.ref_terms.specs.terms.Apply.{fill};
 ghost use Rattle.beta_fragment.specs.Body.{IsLam, opened_reads, at_name};
+ghost use Rattle.beta_fragment.specs.Moves.{put_name as put_in};
 
+use crate::cells::Cells;
+use crate::evaluating::evaluated;
 use crate::glance::{Readiness, looked_at};
 use crate::head::own_levels;
 use crate::putting::put_node;
+use crate::quoting::quoted;
 use crate::renaming::{moved_node, sum_of};
 use level_terms::{Heap, Node, TermId};
 use std::alloc::{AllocError, Global};
 
 /// The abstraction's body with the argument for its bound name. Answers `AllocError` on want of
-/// memory, and still where an argument that isn't ready goes into a body with an application that
-/// may reduce.
+/// memory alone.
 pub fn contract(
     alloc: Global,
     heap: &mut Heap,
@@ -77,7 +81,7 @@ pub(crate) fn opened(
 }
 
 /// The body of an abstraction with a term for its own name: the body is renamed to a new name, and
-/// the term is put in its place. Where that takes reduction it answers `AllocError`.
+/// the term is put in its place.
 fn filled(
     alloc: Global,
     heap: &mut Heap,
@@ -98,6 +102,57 @@ fn filled(
     heap.is_sound();
     let inner = sum_of(depth, 1)?;
     let named = opened(alloc, heap, lam, made, body, depth, inner)?;
+    put_name(alloc, heap, arg, depth, named)
+}
+
+/// The node with another in the place of the name of the depth.
+fn put_name(
+    alloc: Global,
+    heap: &mut Heap,
+    put: TermId,
+    depth: usize,
+    t: TermId,
+) -> Result<TermId, AllocError>
+    requires put { IsValid heap.old put.index depth }
+    requires valid { IsValid heap.old t.index (depth + 1) }
+    ensures reads { IfOk result (λ r. read heap.new r.index names ≡ fill (put_in depth (read heap.old put.index names)) (read heap.old t.index names)) }
+    ensures valid { IfOk result (λ r. IsValid heap.new r.index depth) }
+    ensures grows { Grows heap.old heap.new [] [] }
+{
     heap.is_sound();
-    put_node(alloc, heap, arg, depth, named)
+    if let Some(r) = put_node(alloc, heap, put, depth, t)? {
+        return Ok(r);
+    }
+    reduced(alloc, heap, put, depth, t)
+}
+
+/// The node with another in the place of the name of the depth, where that may take reduction: it is
+/// kept by its parts, and quoted.
+fn reduced(
+    alloc: Global,
+    heap: &mut Heap,
+    put: TermId,
+    depth: usize,
+    t: TermId,
+) -> Result<TermId, AllocError>
+    requires put { IsValid heap.old put.index depth }
+    requires valid { IsValid heap.old t.index (depth + 1) }
+    ensures reads { IfOk result (λ r. read heap.new r.index names ≡ fill (put_in depth (read heap.old put.index names)) (read heap.old t.index names)) }
+    ensures valid { IfOk result (λ r. IsValid heap.new r.index depth) }
+    ensures grows { Grows heap.old heap.new [] [] }
+{
+    heap.is_sound();
+    let inner = sum_of(depth, 1)?;
+    let levels = own_levels(alloc, inner)?;
+    let mut cells = Cells::new(alloc);
+    let number = evaluated(
+        alloc,
+        heap,
+        &mut cells,
+        t,
+        levels.as_slice(),
+        &[],
+        inner,
+    )?;
+    quoted(alloc, heap, &cells, number, depth, Some(put))
 }

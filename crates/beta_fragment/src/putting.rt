@@ -1,9 +1,9 @@
 //! A term in the place of a level.
 //!
 //! The walk is that of renaming. It stops at an application whose head may be an abstraction, since
-//! such a term may reduce before the term is put into it and not after.
+//! such a term may reduce before the term is put into it and not after, and answers none there.
 
-ghost use Rattle.std.specs.Prelude.{◌≡◌, ◌+◌, ◌-◌, List, reverse, ◌<◌, ◌≤◌, ℕ, [], ◌∷◌, ◌++◌, length, map, slice_index, IfOk, OnOk, Some, None};
+ghost use Rattle.std.specs.Prelude.{◌≡◌, ◌+◌, ◌-◌, List, reverse, ◌<◌, ◌≤◌, ℕ, [], ◌∷◌, ◌++◌, length, map, slice_index, IfOk, IfSome, IsTrue, OnOk, Some, None};
 ghost use Rattle.level_terms.specs.Graph.{node_at, value_in};
 ghost use Rattle.level_terms.specs.Sound.{AllOlder};
 ghost use Rattle.level_terms.specs.Valid.{IsValid};
@@ -11,6 +11,7 @@ ghost use Rattle.level_terms.specs.Reading.{read};
 ghost use Rattle.level_terms.specs.Growth.{Grows};
 ghost use Rattle.beta_fragment.specs.Moves.{putting, value_of, IsPutLevel, ArePutLevels, IsPutVar, Puts, IsVarOf};
 ghost use Rattle.beta_fragment.specs.Firm.{IsPlainNode};
+ghost use Rattle.beta_fragment.specs.Settled.{HasPlainHead, IsDirect, IsTaskThere};
 ghost use Rattle.beta_fragment.specs.Work.{State, Steps, IsReady};
 ghost use Rattle.level_terms.specs.declared.node.TermId.{TermId as Id};
 ghost use Rattle.beta_fragment.specs.declared.renaming.Task.{Task as TaskOf};
@@ -209,7 +210,7 @@ fn put_at_var(
     Ok(())
 }
 
-/// Does a task that visits a node. Where it can't be done without reduction it answers `AllocError`.
+/// Does a task that visits a node which takes no reduction.
 fn put_at(
     alloc: Global,
     heap: &mut Heap,
@@ -221,6 +222,7 @@ fn put_at(
     done: &mut Vec<TermId>,
 ) -> Result<(), AllocError>
     requires there { node.index < length heap.old.nodes }
+    requires plain { HasPlainHead heap.old (node_at heap.old.nodes node.index) }
     requires put { IsValid heap.old put.index level }
     requires done { AllOlder (length heap.old.nodes) done.old.items }
     ensures steps { OnOk result (Steps (putting (read heap.old put.index) level) (record { heap = heap.old; work = work.old.items ++ visit_task node base ∷ []; done = done.old.items }) (record { heap = heap.new; work = work.new.items; done = done.new.items })) }
@@ -242,10 +244,7 @@ fn put_at(
             put_at_lam(heap, put, level, node, base, depth, body, work)
         }
         Node::App { head, args } => {
-            if is_plain(heap, *head) {
-                return put_at_app(heap, put, level, node, base, *head, args.as_slice(), work);
-            }
-            Err(AllocError)
+            put_at_app(heap, put, level, node, base, *head, args.as_slice(), work)
         }
         Node::Var(v) => {
             let v = *v;
@@ -261,7 +260,30 @@ fn put_at(
     }
 }
 
-/// Does a task.
+/// Whether the node, if it is an application, is certain to have no abstraction as its head.
+fn has_plain_head(heap: &Heap, node: TermId) -> bool
+    requires { node.index < length heap.now.nodes }
+    ensures { IsTrue result → HasPlainHead heap.now (node_at heap.now.nodes node.index) }
+{
+    heap.is_sound();
+    match heap.view(node) {
+        Node::App { head, .. } => is_plain(heap, *head),
+        _ => true,
+    }
+}
+
+/// Whether the task is certain to take no reduction.
+fn is_direct(heap: &Heap, task: Task) -> bool
+    requires { IsTaskThere (length heap.now.nodes) task }
+    ensures { IsTrue result → IsDirect heap.now task }
+{
+    match task {
+        Task::Visit { node, .. } => has_plain_head(heap, node),
+        _ => true,
+    }
+}
+
+/// Does a task that takes no reduction.
 fn put_step(
     alloc: Global,
     heap: &mut Heap,
@@ -272,6 +294,7 @@ fn put_step(
     done: &mut Vec<TermId>,
 ) -> Result<(), AllocError>
     requires put { IsValid heap.old put.index level }
+    requires plain { IsDirect heap.old task }
     requires ready { IsReady (putting (read heap.old put.index) level) (length heap.old.nodes) (length done.old.items) task }
     requires done { AllOlder (length heap.old.nodes) done.old.items }
     ensures steps { OnOk result (Steps (putting (read heap.old put.index) level) (record { heap = heap.old; work = work.old.items ++ task ∷ []; done = done.old.items }) (record { heap = heap.new; work = work.new.items; done = done.new.items })) }
@@ -285,28 +308,32 @@ fn put_step(
     }
 }
 
-/// The node with another in the place of the level, and the levels above it one lower.
+/// The node with another in the place of the level, and the levels above it one lower. None where
+/// that may take reduction.
 pub(crate) fn put_node(
     alloc: Global,
     heap: &mut Heap,
     put: TermId,
     level: usize,
     t: TermId,
-) -> Result<TermId, AllocError>
+) -> Result<Option<TermId>, AllocError>
     requires put { IsValid heap.old put.index level }
     requires valid { IsValid heap.old t.index (level + 1) }
-    ensures puts { IfOk result (λ r. Puts heap.old (read heap.old put.index) level t.index (level + 1) (value_of heap.new r)) }
-    ensures there { IfOk result (λ r. r.index < length heap.new.nodes) }
+    ensures puts { IfOk result (λ o. IfSome o (λ r. Puts heap.old (read heap.old put.index) level t.index (level + 1) (value_of heap.new r))) }
+    ensures there { IfOk result (λ o. IfSome o (λ r. r.index < length heap.new.nodes)) }
     ensures grows { Grows heap.old heap.new [] [] }
 {
     heap.is_sound();
     let mut work = first_task(alloc, t, 0)?;
     let mut done = Vec::new(alloc);
     while let Some(task) = work.pop() {
+        if !is_direct(heap, task) {
+            return Ok(None);
+        }
         put_step(alloc, heap, put, level, task, &mut work, &mut done)?;
     }
     match done.pop() {
-        Some(r) => Ok(r),
+        Some(r) => Ok(Some(r)),
         None => unreachable!(),
     }
 }
