@@ -30,8 +30,6 @@ use Rattle.beta_fragment.specs.Turn.{GoesOn, NoneReady, IsFirst}
 use Rattle.beta_fragment.specs.Spine.{args_in}
 use Rattle.beta_fragment.specs.declared.glance.Readiness.TheVariants.{Level}
 use Rattle.std.specs.Option.{option_to_list}
-use Rattle.std.proofs.Common.{get_or}
-use Rattle.std.proofs.lemmas.Grind.{get_or_default_zero}
 use Rattle.beta_fragment.proofs.SplitLemmas.{empty-list}
 use Rattle.beta_fragment.proofs.ReadLemmas.{valid-below, grown-reads}
 use Rattle.beta_fragment.proofs.EnterLemmas.{body-applied, body-valid}
@@ -143,8 +141,8 @@ pop-split g depth k items items' (Some a) e z f =
     (a, e, first.0, first.1)
 
 -- a level's name
-pub level-reads : (g : Graph) (t l n : ℕ) (ls : List ℕ) → IsSound g → node_at g.nodes t ≡ Some (node_level l) → IsValid g t (length ls) → n ≡ get_or ls l n → read g t (renamed ls) ≡ names n
-level-reads g t l n ls s e v q = nodes_read g t (node_level l) (renamed ls) s (renamed-places ls) e ∙ ap names (sym (q ∙ get_or_default_zero ls l n (level-low g t l (length ls) s e v)))
+pub level-reads : (g : Graph) (t l n : ℕ) (ls : List ℕ) → IsSound g → node_at g.nodes t ≡ Some (node_level l) → IsValid g t (length ls) → n ≡ slice_index ls l → read g t (renamed ls) ≡ names n
+level-reads g t l n ls s e v q = nodes_read g t (node_level l) (renamed ls) s (renamed-places ls) e ∙ ap names (sym q)
 
 pub leaf-reads : (g : Graph) (t : ℕ) (n : Node) (ls : List ℕ) (h : term.Head) → IsSound g → node_at g.nodes t ≡ Some n → node_reads g n (renamed ls) ≡ At h → read g t (renamed ls) ≡ At h
 leaf-reads g t n ls h s e q = nodes_read g t n (renamed ls) s (renamed-places ls) e ∙ q
@@ -153,11 +151,11 @@ leaf-reads g t n ls h s e q = nodes_read g t n (renamed ls) s (renamed-places ls
 pub args-valid : (g : Graph) (t s : ℕ) (k : TermId) (ts : List TermId) → IsSound g → node_at g.nodes t ≡ Some (App k ts) → IsValid g t s → AllValidAt g (args_in (node_at g.nodes t)) s
 args-valid g t s k ts sound e v = subst (λ o. AllValidAt g (args_in o) s) (sym e) (app-valid g t s k ts sound e v).1
 
-pub app-turn-at : (g h : Graph) (depth head : ℕ) (inner : TermId) (ts : List TermId) (ls slice : List ℕ) (fixed : ℕ) (args args' : List TermId) → IsSound g → Grows g h [] [] → node_at g.nodes head ≡ Some (App inner ts) → IsValid g head (length ls) → IsMove ls fixed depth → slice ≡ ls →
-    all_read h (reverse args') ≡ map (λ a. read g a.index (renamed slice)) (args_in (node_at g.nodes head)) ++ all_read g (reverse args) → AllValidAt h (reverse args') depth → GoesOn depth g h head inner.index ls ls fixed args args'
-app-turn-at g h depth head inner ts ls slice fixed args args' s w e valid m q reads valids =
+pub app-turn-at : (g h : Graph) (depth head : ℕ) (inner : TermId) (ts : List TermId) (ls : List ℕ) (fixed : ℕ) (args args' : List TermId) → IsSound g → Grows g h [] [] → node_at g.nodes head ≡ Some (App inner ts) → IsValid g head (length ls) → IsMove ls fixed depth →
+    all_read h (reverse args') ≡ map (λ a. read g a.index (renamed ls)) (args_in (node_at g.nodes head)) ++ all_read g (reverse args) → AllValidAt h (reverse args') depth → GoesOn depth g h head inner.index ls ls fixed args args'
+app-turn-at g h depth head inner ts ls fixed args args' s w e valid m reads valids =
     app-turn g h depth head inner ts ls fixed args args' s w e valid m
-    (reads ∙ ap₂ (λ (zs : List ℕ) (us : List TermId). map (λ a. read g a.index (renamed zs)) us ++ all_read g (reverse args)) q (ap args_in e)) valids
+    (reads ∙ ap (λ (us : List TermId). map (λ a. read g a.index (renamed ls)) us ++ all_read g (reverse args)) (ap args_in e)) valids
 
 -- at first the levels are their own names
 pub first-spine : (g : Graph) (depth t : ℕ) (ls : List ℕ) (args : List TermId) → IsValid g t depth → ((i : ℕ) → i < depth → slice_index ls i ≡ i) → args ≡ [] → IsSpine g depth (read g t names) t ls args

@@ -10,6 +10,7 @@ ghost use Rattle.beta_fragment.specs.Cells.{terms_of, term_at, Gains, IsKept};
 ghost use Rattle.beta_fragment.specs.Quoted.{AllHeads, IsOpenHead};
 
 use crate::cells::Cells;
+use crate::levels::Levels;
 use level_terms::{Heap, TermId};
 use std::alloc::{AllocError, Global};
 
@@ -19,7 +20,7 @@ pub(crate) fn evaluated(
     heap: &Heap,
     cells: &mut Cells,
     head: TermId,
-    levels: &[usize],
+    levels: &Levels,
     args: &[TermId],
     depth: usize,
 ) -> Result<usize, AllocError>

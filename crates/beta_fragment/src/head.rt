@@ -23,6 +23,7 @@ ghost use Rattle.beta_fragment.specs.Turn.{IsTurn, NoneReady, IsFirst};
 
 use crate::answer::{RigidHead, Whnf};
 use crate::glance::{Readiness, bare_var_of, is_abstraction, looked_at};
+use crate::levels::Levels;
 use crate::renaming::{made_lam, moved_levels, moved_node, sum_of};
 use crate::settling::settled;
 use level_terms::{Heap, Node, TermId, TermIds, VarId};
@@ -36,7 +37,7 @@ pub fn whnf(alloc: Global, heap: &mut Heap, t: TermId, depth: usize) -> Result<W
     ensures grows { Grows heap.old heap.new [] [] }
 {
     heap.is_sound();
-    let mut levels = own_levels(alloc, depth)?;
+    let mut levels = Levels::own(alloc, depth);
     let mut fixed = depth;
     let mut args = Vec::new(alloc);
     let mut head = t;
@@ -57,18 +58,6 @@ enum Turn {
     Ends(Whnf),
 }
 
-/// The levels below a depth, each for its own name.
-pub(crate) fn own_levels(alloc: Global, depth: usize) -> Result<Vec<usize>, AllocError>
-    ensures count { IfOk result (λ levels. length levels.items ≡ depth) }
-    ensures own { IfOk result (λ levels. (i : ℕ) → i < depth → slice_index levels.items i ≡ i) }
-{
-    let mut levels = Vec::new(alloc);
-    for level in 0..depth {
-        levels.push(level)?;
-    }
-    Ok(levels)
-}
-
 /// An argument of an application.
 fn arg_of(heap: &Heap, t: TermId, i: usize) -> TermId
     requires there { t.index < length heap.now.nodes }
@@ -85,7 +74,7 @@ fn arg_of(heap: &Heap, t: TermId, i: usize) -> TermId
 fn push_args(
     alloc: Global,
     heap: &mut Heap,
-    levels: &[usize],
+    levels: &Levels,
     fixed: usize,
     depth: usize,
     t: TermId,
@@ -143,7 +132,7 @@ fn rigid(
     heap: &Heap,
     t: TermId,
     head: RigidHead,
-    levels: &[usize],
+    levels: &Levels,
     depth: usize,
     args: &[TermId],
 ) -> Result<Whnf, AllocError>
@@ -161,7 +150,7 @@ fn flex(
     t: TermId,
     v: VarId,
     count: usize,
-    levels: &[usize],
+    levels: &Levels,
     depth: usize,
     args: &[TermId],
 ) -> Result<Whnf, AllocError>
@@ -186,14 +175,14 @@ fn renamed_lam(
     t: TermId,
     made: usize,
     body: TermId,
-    levels: &mut Vec<usize>,
+    levels: &mut Levels,
     fixed: usize,
     depth: usize,
 ) -> Result<TermId, AllocError>
     requires here { node_at heap.old.nodes t.index ≡ Some (lam_node made body) }
-    requires valid { IsValid heap.old t.index (length levels.old.items) }
-    requires moves { IsMove levels.old.items fixed depth }
-    ensures reads { IfOk result (λ r. read heap.new r.index names ≡ read heap.old t.index (renamed levels.old.items)) }
+    requires valid { IsValid heap.old t.index (length levels.old) }
+    requires moves { IsMove levels.old fixed depth }
+    ensures reads { IfOk result (λ r. read heap.new r.index names ≡ read heap.old t.index (renamed levels.old)) }
     ensures lam { IfOk result (λ r. IsLam (node_at heap.new.nodes r.index)) }
     ensures valid { IfOk result (λ r. IsValid heap.new r.index depth) }
     ensures grows { Grows heap.old heap.new [] [] }
@@ -205,7 +194,7 @@ fn renamed_lam(
     let inner = sum_of(depth, 1)?;
     levels.truncate(made);
     levels.push(depth)?;
-    let r = moved_node(alloc, heap, levels.as_slice(), fixed, inner, body)?;
+    let r = moved_node(alloc, heap, levels, fixed, inner, body)?;
     made_lam(heap, depth, r)
 }
 
@@ -217,17 +206,17 @@ fn stuck(
     t: TermId,
     made: usize,
     body: TermId,
-    levels: &mut Vec<usize>,
+    levels: &mut Levels,
     fixed: usize,
     depth: usize,
     args: &[TermId],
 ) -> Result<Whnf, AllocError>
     requires here { node_at heap.old.nodes t.index ≡ Some (lam_node made body) }
-    requires valid { IsValid heap.old t.index (length levels.old.items) }
-    requires moves { IsMove levels.old.items fixed depth }
+    requires valid { IsValid heap.old t.index (length levels.old) }
+    requires moves { IsMove levels.old fixed depth }
     requires certain { IsAbstractionNode heap.old t.index }
     requires unready { NoneReady heap.old (reverse args.now) }
-    ensures form { IfOk result (λ w. (u : Term) → IsSpine heap.old depth u t.index levels.old.items args.now → IsHeadForm heap.new depth u w) }
+    ensures form { IfOk result (λ w. (u : Term) → IsSpine heap.old depth u t.index levels.old args.now → IsHeadForm heap.new depth u w) }
     ensures grows { Grows heap.old heap.new [] [] }
 {
     heap.is_sound();
@@ -246,17 +235,17 @@ fn held(
     t: TermId,
     made: usize,
     body: TermId,
-    levels: &mut Vec<usize>,
+    levels: &mut Levels,
     fixed: usize,
     depth: usize,
     args: &[TermId],
 ) -> Result<Whnf, AllocError>
     requires here { node_at heap.old.nodes t.index ≡ Some (lam_node made body) }
-    requires valid { IsValid heap.old t.index (length levels.old.items) }
-    requires moves { IsMove levels.old.items fixed depth }
+    requires valid { IsValid heap.old t.index (length levels.old) }
+    requires moves { IsMove levels.old fixed depth }
     requires args { AllValidAt heap.old (reverse args.now) depth }
     requires unready { NoneReady heap.old (reverse args.now) }
-    ensures form { IfOk result (λ w. (u : Term) → IsSpine heap.old depth u t.index levels.old.items args.now → IsHeadForm heap.new depth u w) }
+    ensures form { IfOk result (λ w. (u : Term) → IsSpine heap.old depth u t.index levels.old args.now → IsHeadForm heap.new depth u w) }
     ensures grows { Grows heap.old heap.new [] [] }
 {
     heap.is_sound();
@@ -264,8 +253,8 @@ fn held(
         return stuck(alloc, heap, t, made, body, levels, fixed, depth, args);
     }
     match bare_var_of(heap, t, made) {
-        Some(v) => flex(alloc, heap, t, v, made, levels.as_slice(), depth, args),
-        None => settled(alloc, heap, t, levels.as_slice(), args, depth),
+        Some(v) => flex(alloc, heap, t, v, made, levels, depth, args),
+        None => settled(alloc, heap, t, levels, args, depth),
     }
 }
 
@@ -277,15 +266,15 @@ fn turn_lam(
     made: usize,
     body: TermId,
     depth: usize,
-    levels: &mut Vec<usize>,
+    levels: &mut Levels,
     fixed: &mut usize,
     args: &mut Vec<TermId>,
 ) -> Result<Turn, AllocError>
     requires here { node_at heap.old.nodes head.index ≡ Some (lam_node made body) }
-    requires moves { IsMove levels.old.items fixed.old depth }
-    requires valid { IsValid heap.old head.index (length levels.old.items) }
+    requires moves { IsMove levels.old fixed.old depth }
+    requires valid { IsValid heap.old head.index (length levels.old) }
     requires args { AllValidAt heap.old (reverse args.old.items) depth }
-    ensures turn { IfOk result (λ w. IsTurn depth heap.old heap.new head.index levels.old.items levels.new.items fixed.new args.old.items args.new.items w) }
+    ensures turn { IfOk result (λ w. IsTurn depth heap.old heap.new head.index levels.old levels.new fixed.new args.old.items args.new.items w) }
     ensures grows { Grows heap.old heap.new [] [] }
 {
     heap.is_sound();
@@ -316,7 +305,7 @@ fn turn_lam(
                 alloc,
                 heap,
                 head,
-                levels.as_slice(),
+                levels,
                 args.as_slice(),
                 depth,
             )?;
@@ -343,14 +332,14 @@ fn one_turn(
     heap: &mut Heap,
     head: TermId,
     depth: usize,
-    levels: &mut Vec<usize>,
+    levels: &mut Levels,
     fixed: &mut usize,
     args: &mut Vec<TermId>,
 ) -> Result<Turn, AllocError>
-    requires moves { IsMove levels.old.items fixed.old depth }
-    requires valid { IsValid heap.old head.index (length levels.old.items) }
+    requires moves { IsMove levels.old fixed.old depth }
+    requires valid { IsValid heap.old head.index (length levels.old) }
     requires args { AllValidAt heap.old (reverse args.old.items) depth }
-    ensures turn { IfOk result (λ w. IsTurn depth heap.old heap.new head.index levels.old.items levels.new.items fixed.new args.old.items args.new.items w) }
+    ensures turn { IfOk result (λ w. IsTurn depth heap.old heap.new head.index levels.old levels.new fixed.new args.old.items args.new.items w) }
     ensures grows { Grows heap.old heap.new [] [] }
 {
     heap.is_sound();
@@ -361,7 +350,7 @@ fn one_turn(
                 heap,
                 head,
                 RigidHead::Con(*c),
-                levels.as_slice(),
+                levels,
                 depth,
                 args.as_slice(),
             )?;
@@ -375,7 +364,7 @@ fn one_turn(
                 heap,
                 head,
                 name,
-                levels.as_slice(),
+                levels,
                 depth,
                 args.as_slice(),
             )?;
@@ -387,20 +376,20 @@ fn one_turn(
                 heap,
                 head,
                 RigidHead::Str(*s),
-                levels.as_slice(),
+                levels,
                 depth,
                 args.as_slice(),
             )?;
             Ok(Turn::Ends(form))
         }
         Node::Level(l) => {
-            let name = RigidHead::Level(levels[*l]);
+            let name = RigidHead::Level(levels.name(*l));
             let form = rigid(
                 alloc,
                 heap,
                 head,
                 name,
-                levels.as_slice(),
+                levels,
                 depth,
                 args.as_slice(),
             )?;
@@ -420,7 +409,7 @@ fn one_turn(
             push_args(
                 alloc,
                 heap,
-                levels.as_slice(),
+                levels,
                 *fixed,
                 depth,
                 head,
@@ -437,7 +426,7 @@ fn one_turn(
                 head,
                 v,
                 depth,
-                levels.as_slice(),
+                levels,
                 *fixed,
                 args.as_slice(),
             )
@@ -452,7 +441,7 @@ fn turn_var(
     head: TermId,
     v: VarId,
     depth: usize,
-    levels: &[usize],
+    levels: &Levels,
     fixed: usize,
     args: &[TermId],
 ) -> Result<Turn, AllocError>

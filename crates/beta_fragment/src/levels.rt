@@ -1,7 +1,6 @@
 //! What the levels of a node stand for.
 
-ghost use Rattle.std.specs.Prelude.{◌≡◌, ◌∷◌, [], ◌++◌, ◌<◌, length, take, slice_index, IfOk, OnOk};
-ghost use Rattle.std.specs.List.{range_with_len};
+ghost use Rattle.std.specs.Prelude.{◌≡◌, ℕ, ◌∷◌, [], ◌++◌, ◌<◌, length, take, slice_index, IfOk, OnOk};
 
 use std::alloc::{AllocError, Global};
 use std::marker::Model;
@@ -29,7 +28,8 @@ impl Model for Levels {
 impl Levels {
     /// So many levels, each for its own name. Takes no memory.
     pub(crate) fn own(alloc: Global, depth: usize) -> Levels
-        ensures { result ≡ range_with_len 0 depth }
+        ensures count { length result ≡ depth }
+        ensures own { (i : ℕ) → i < depth → slice_index result i ≡ i }
     {
         Levels {
             own: depth,

@@ -15,7 +15,7 @@ ghost use Rattle.beta_fragment.specs.Moves.{put_name as put_in};
 use crate::cells::Cells;
 use crate::evaluating::evaluated;
 use crate::glance::{Readiness, looked_at};
-use crate::head::own_levels;
+use crate::levels::Levels;
 use crate::putting::put_node;
 use crate::quoting::quoted;
 use crate::renaming::{moved_node, sum_of};
@@ -75,9 +75,9 @@ pub(crate) fn opened(
     if name == made {
         return Ok(body);
     }
-    let mut levels = own_levels(alloc, made)?;
+    let mut levels = Levels::own(alloc, made);
     levels.push(name)?;
-    moved_node(alloc, heap, levels.as_slice(), made, to, body)
+    moved_node(alloc, heap, &levels, made, to, body)
 }
 
 /// The body of an abstraction with a term for its own name: the body is renamed to a new name, and
@@ -143,16 +143,8 @@ fn reduced(
 {
     heap.is_sound();
     let inner = sum_of(depth, 1)?;
-    let levels = own_levels(alloc, inner)?;
+    let levels = Levels::own(alloc, inner);
     let mut cells = Cells::new(alloc);
-    let number = evaluated(
-        alloc,
-        heap,
-        &mut cells,
-        t,
-        levels.as_slice(),
-        &[],
-        inner,
-    )?;
+    let number = evaluated(alloc, heap, &mut cells, t, &levels, &[], inner)?;
     quoted(alloc, heap, &cells, number, depth, Some(put))
 }

@@ -16,6 +16,7 @@ use crate::cells::{Cell, Cells};
 use crate::evaluating::evaluated;
 use crate::head::in_order;
 use crate::quoting::quoted;
+use crate::levels::Levels;
 use level_terms::{Heap, TermId};
 use std::alloc::{AllocError, Global};
 
@@ -25,7 +26,7 @@ pub(crate) fn settled(
     alloc: Global,
     heap: &mut Heap,
     head: TermId,
-    levels: &[usize],
+    levels: &Levels,
     args: &[TermId],
     depth: usize,
 ) -> Result<Whnf, AllocError>

@@ -16,7 +16,7 @@ returns-clause-form c = λ u k.
     let lam : ReadsAsLam c.renamed_lam.new.heap c.in_ok-r.r.index c.args.depth = record {
       node = c.in_ok-r.ensures.lam;
       valid = c.in_ok-r.ensures.valid;
-      reads = subst IsAbstraction (sym c.in_ok-r.ensures.reads) (c.requires.certain (renamed c.args.levels.now.items) (renamed-places c.args.levels.now.items));
+      reads = subst IsAbstraction (sym c.in_ok-r.ensures.reads) (c.requires.certain (renamed c.args.levels.now) (renamed-places c.args.levels.now));
     } in (
       lam,
       subst (FirstUnready c.renamed_lam.new.heap) (sym list) (unready-first c.args.heap.now c.renamed_lam.new.heap c.args.depth (reverse c.args.args.now) c.is_sound.ensures c.in_ok-r.ensures.grows k.valid some c.requires.unready),

@@ -22,5 +22,5 @@ returns-in_ok-push-in-Level-clause-turn c =
     let parts = pop-split c.args.heap.now c.args.depth c.in-Level.k c.args.args.now.items c.pop.new.self.items c.pop.result c.pop.ensures.items
     (λ e. let z = subst (λ o. MatchOption o ((vec_len c.args.args.now ≡ 0) × (vec_len c.pop.new.self ≡ 0)) (λ _. vec_len c.pop.new.self + 1 ≡ vec_len c.args.args.now)) e c.pop.ensures.cases in omega (arith, z, c.args.args.now.ok))
     first in
-    lam-turn c.args.heap.now c.args.depth c.args.head.index c.args.made c.args.body c.in-Level.k parts.0 c.args.levels.now.items c.push.new.self.items c.args.fixed.now c.min.result c.args.args.now.items c.pop.new.self.items c.is_sound.ensures c.requires.here c.requires.valid c.requires.moves parts.1 parts.2 parts.3
-    (c.in_ok-push-in-Level.ensures.items ∙ ap (λ (ls : List ℕ). ls ++ c.in-Level.k ∷ []) c.truncate.ensures.items) c.min.ensures
+    lam-turn c.args.heap.now c.args.depth c.args.head.index c.args.made c.args.body c.in-Level.k parts.0 c.args.levels.now c.push.new.self c.args.fixed.now c.min.result c.args.args.now.items c.pop.new.self.items c.is_sound.ensures c.requires.here c.requires.valid c.requires.moves parts.1 parts.2 parts.3
+    (c.in_ok-push-in-Level.ensures ∙ ap (λ (ls : List ℕ). ls ++ c.in-Level.k ∷ []) c.truncate.ensures) c.min.ensures

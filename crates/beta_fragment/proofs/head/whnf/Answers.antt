@@ -8,14 +8,11 @@ use Rattle.beta_fragment.proofs.ReadLemmas.{valid-below}
 use Rattle.beta_fragment.proofs.TurnLemmas.{first-spine, first-moves}
 use Rattle.beta_fragment.proofs.head.whnf.Goals as goal
 
-pub returns-in_err-levels-clause-grows : goal.returns-in_err-levels-clause-grows
-returns-in_err-levels-clause-grows c = grows-refl c.args.heap.now []
-
 pub loop-args-init : goal.loop-args-init
 loop-args-init c = record {
-  spine = first-spine c.args.heap.now c.args.depth c.args.t.index c.in_ok-levels.levels.items c.new-args.result.items c.requires c.in_ok-levels.ensures.own c.new-args.ensures.items;
-  moves = first-moves c.args.depth c.in_ok-levels.levels.items c.in_ok-levels.ensures.count c.in_ok-levels.ensures.own;
-  valid = subst (IsValid c.args.heap.now c.args.t.index) (sym c.in_ok-levels.ensures.count) c.requires;
+  spine = first-spine c.args.heap.now c.args.depth c.args.t.index c.own-levels.result c.new-args.result.items c.requires c.own-levels.ensures.own c.new-args.ensures.items;
+  moves = first-moves c.args.depth c.own-levels.result c.own-levels.ensures.count c.own-levels.ensures.own;
+  valid = subst (IsValid c.args.heap.now c.args.t.index) (sym c.own-levels.ensures.count) c.requires;
   there = valid-below c.args.heap.now c.args.t.index c.args.depth c.requires;
   grows = grows-refl c.args.heap.now [];
 }
@@ -28,8 +25,8 @@ returns-in-Ends-clause-grows c = grows-trans c.args.heap.now c.loop-args.heap c.
 
 pub loop-args-preserved : goal.loop-args-preserved
 loop-args-preserved c =
-    let turn : GoesOn c.args.depth c.loop-args.heap c.one_turn.new.heap c.loop-args.head.index c.in-Goes.next.index c.loop-args.levels.items c.one_turn.new.levels.items c.one_turn.new.fixed c.loop-args.args.items c.one_turn.new.args.items =
-    subst (IsTurn c.args.depth c.loop-args.heap c.one_turn.new.heap c.loop-args.head.index c.loop-args.levels.items c.one_turn.new.levels.items c.one_turn.new.fixed c.loop-args.args.items c.one_turn.new.args.items) c.in-Goes.is c.in_ok-next.ensures.turn in
+    let turn : GoesOn c.args.depth c.loop-args.heap c.one_turn.new.heap c.loop-args.head.index c.in-Goes.next.index c.loop-args.levels c.one_turn.new.levels c.one_turn.new.fixed c.loop-args.args.items c.one_turn.new.args.items =
+    subst (IsTurn c.args.depth c.loop-args.heap c.one_turn.new.heap c.loop-args.head.index c.loop-args.levels c.one_turn.new.levels c.one_turn.new.fixed c.loop-args.args.items c.one_turn.new.args.items) c.in-Goes.is c.in_ok-next.ensures.turn in
     record {
       spine = turn.spine (read c.args.heap.now c.args.t.index names) c.loop-args.invariant.spine;
       moves = turn.moves;
@@ -40,6 +37,6 @@ loop-args-preserved c =
 
 pub loop-args-smaller : goal.loop-args-smaller
 loop-args-smaller c =
-    let turn : GoesOn c.args.depth c.loop-args.heap c.one_turn.new.heap c.loop-args.head.index c.in-Goes.next.index c.loop-args.levels.items c.one_turn.new.levels.items c.one_turn.new.fixed c.loop-args.args.items c.one_turn.new.args.items =
-    subst (IsTurn c.args.depth c.loop-args.heap c.one_turn.new.heap c.loop-args.head.index c.loop-args.levels.items c.one_turn.new.levels.items c.one_turn.new.fixed c.loop-args.args.items c.one_turn.new.args.items) c.in-Goes.is c.in_ok-next.ensures.turn in
+    let turn : GoesOn c.args.depth c.loop-args.heap c.one_turn.new.heap c.loop-args.head.index c.in-Goes.next.index c.loop-args.levels c.one_turn.new.levels c.one_turn.new.fixed c.loop-args.args.items c.one_turn.new.args.items =
+    subst (IsTurn c.args.depth c.loop-args.heap c.one_turn.new.heap c.loop-args.head.index c.loop-args.levels c.one_turn.new.levels c.one_turn.new.fixed c.loop-args.args.items c.one_turn.new.args.items) c.in-Goes.is c.in_ok-next.ensures.turn in
     (turn.less c.args.heap.now c.is_sound.ensures c.loop-args.invariant.grows c.loop-args.invariant.there).1

@@ -10,9 +10,9 @@ use Rattle.beta_fragment.proofs.head.whnf.Given as goal
 
 abbrev pub invariant-loop-args : goal.invariant-loop-args
 invariant-loop-args l = record {
-  spine : IsSpine l.heap l.depth (read l.fn.heap l.fn.t.index names) l.head.index l.levels.items l.args.items;
-  moves : IsMove l.levels.items l.fixed l.depth;
-  valid : IsValid l.heap l.head.index (length l.levels.items);
+  spine : IsSpine l.heap l.depth (read l.fn.heap l.fn.t.index names) l.head.index l.levels l.args.items;
+  moves : IsMove l.levels l.fixed l.depth;
+  valid : IsValid l.heap l.head.index (length l.levels);
   there : l.head.index < length l.fn.heap.nodes;
   grows : Grows l.fn.heap l.heap [] [];
 }

@@ -22,25 +22,22 @@ returns-then-name-made-clause-valid c =
 pub returns-then-name-made-clause-grows : goal.returns-then-name-made-clause-grows
 returns-then-name-made-clause-grows c = grows-refl c.args.heap.now []
 
-pub returns-in_err-levels-clause-grows : goal.returns-in_err-levels-clause-grows
-returns-in_err-levels-clause-grows c = grows-refl c.args.heap.now []
-
 pub returns-in_err-push-clause-grows : goal.returns-in_err-push-clause-grows
 returns-in_err-push-clause-grows c = grows-refl c.args.heap.now []
 
 pub moved_node-requires-clause-moves : goal.moved_node-requires-clause-moves
-moved_node-requires-clause-moves c = opened-move c.args.made c.args.name c.args.to c.in_ok-levels.levels.items c.as_slice.result.now c.in_ok-levels.ensures.count c.in_ok-levels.ensures.own (c.as_slice.ensures.value ∙ c.in_ok-push.ensures.items) c.requires.name c.requires.low
+moved_node-requires-clause-moves c = opened-move c.args.made c.args.name c.args.to c.own-levels.result c.push.new.self c.own-levels.ensures.count c.own-levels.ensures.own c.in_ok-push.ensures c.requires.name c.requires.low
 
 pub moved_node-requires-clause-valid : goal.moved_node-requires-clause-valid
 moved_node-requires-clause-valid c =
-    subst (IsValid c.args.heap.now c.args.body.index) (sym (own-more c.args.made c.args.name c.in_ok-levels.levels.items c.as_slice.result.now c.in_ok-levels.ensures.count (c.as_slice.ensures.value ∙ c.in_ok-push.ensures.items)))
+    subst (IsValid c.args.heap.now c.args.body.index) (sym (own-more c.args.made c.args.name c.own-levels.result c.push.new.self c.own-levels.ensures.count c.in_ok-push.ensures))
     (body-valid c.args.heap.now c.is_sound.ensures c.args.lam.index c.args.made c.args.body c.args.made c.requires.here c.requires.valid)
 
 pub returns-clause-reads : goal.returns-clause-reads
 returns-clause-reads c = IfOk-weaker c.moved_node.result _ _
-    (λ r m. opened-node c.args.heap.now c.args.made c.args.name c.args.to c.args.body.index c.in_ok-levels.levels.items c.as_slice.result.now (value_of c.moved_node.new.heap r) c.in_ok-levels.ensures.count c.in_ok-levels.ensures.own (c.as_slice.ensures.value ∙ c.in_ok-push.ensures.items)
+    (λ r m. opened-node c.args.heap.now c.args.made c.args.name c.args.to c.args.body.index c.own-levels.result c.push.new.self (value_of c.moved_node.new.heap r) c.own-levels.ensures.count c.own-levels.ensures.own c.in_ok-push.ensures
     (body-valid c.args.heap.now c.is_sound.ensures c.args.lam.index c.args.made c.args.body c.args.made c.requires.here c.requires.valid) m)
     c.moved_node.ensures.moves
 
 pub returns-clause-valid : goal.returns-clause-valid
-returns-clause-valid c = IfOk-weaker c.moved_node.result _ _ (λ r m. opened-valid c.args.heap.now c.args.to c.args.body.index c.as_slice.result.now (value_of c.moved_node.new.heap r) m) c.moved_node.ensures.moves
+returns-clause-valid c = IfOk-weaker c.moved_node.result _ _ (λ r m. opened-valid c.args.heap.now c.args.to c.args.body.index c.push.new.self (value_of c.moved_node.new.heap r) m) c.moved_node.ensures.moves
