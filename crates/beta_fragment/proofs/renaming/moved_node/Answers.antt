@@ -1,4 +1,4 @@
-use Rattle.std.proofs.Common.{◌≡◌, ◌<◌, ◌≤◌, ◌++◌, ◌∷◌, [], List, length, map, reverse, ap, sym, ◌∙◌, subst, arith}
+use Rattle.std.proofs.Common.{◌≡◌, ℕ, ◌<◌, ◌≤◌, ◌++◌, ◌∷◌, [], List, length, map, reverse, ap, sym, ◌∙◌, subst, arith}
 use Rattle.level_terms.specs.Sound.{AllOlder}
 use Rattle.level_terms.specs.declared.node.TermId.{TermId}
 use Rattle.level_terms.proofs.GrowthLemmas.{grows-refl, grows-trans}
@@ -18,8 +18,9 @@ pub loop-task-init : goal.loop-task-init
 loop-task-init c = record {
   leads =
       subst (λ (ws : List Task). IsLeading c.args.heap.now (naming c.args.names.now c.args.to) c.args.t.index (length c.args.names.now) (length c.args.names.now) (record { heap = c.args.heap.now; work = ws; done = c.new-done.result.items })) (sym c.in_ok-work.ensures)
-      (subst (λ (ds : List TermId). IsLeading c.args.heap.now (naming c.args.names.now c.args.to) c.args.t.index (length c.args.names.now) (length c.args.names.now) (record { heap = c.args.heap.now; work = Visit c.args.t (length c.args.names.now) ∷ []; done = ds })) (sym c.new-done.ensures.items)
-      (length c.args.names.now, c.requires.valid, omega arith, omega arith, λ x m. m));
+      (subst (λ (ds : List TermId). IsLeading c.args.heap.now (naming c.args.names.now c.args.to) c.args.t.index (length c.args.names.now) (length c.args.names.now) (record { heap = c.args.heap.now; work = Visit c.args.t c.len.result ∷ []; done = ds })) (sym c.new-done.ensures.items)
+      (subst (λ (n : ℕ). IsLeading c.args.heap.now (naming c.args.names.now c.args.to) c.args.t.index (length c.args.names.now) (length c.args.names.now) (record { heap = c.args.heap.now; work = Visit c.args.t n ∷ []; done = [] })) (sym c.len.ensures)
+      (length c.args.names.now, c.requires.valid, omega arith, omega arith, λ x m. m)));
   there = subst (AllOlder (length c.args.heap.now.nodes)) (sym c.new-done.ensures.items) tt;
   grows = grows-refl c.args.heap.now [];
 }
