@@ -8,3 +8,5 @@ pub mod Spine
 pub mod Turn
 pub mod Cells
 pub mod Quoted
+pub mod Compared
+pub mod Pairs
