@@ -1,5 +1,5 @@
 -- Pairs of nodes whose readings are compared.
-use Rattle.std.proofs.Common.{◌≡◌, ℕ, zero, suc, ◌<◌, ◌≤◌, ◌+◌, ◌++◌, ◌↔◌, Bool, true, false, IsTrue, List, [], ◌∷◌, length, map, take, get_or, Option, Some, None, IfSome, cond, nat_lt, nat_eq, refl, sym, ap, ap₂, ◌∙◌, arith, subst, append-nil, append_assoc, eqb-true, ne_eqb}
+use Rattle.std.proofs.Common.{◌≡◌, ℕ, zero, suc, ◌<◌, ◌≤◌, ◌+◌, ◌++◌, ◌↔◌, Bool, true, false, IsTrue, List, [], ◌∷◌, length, map, take, get_or, slice_index, Result, IfOk, option_map, Option, Some, None, IfSome, cond, nat_lt, nat_eq, refl, sym, ap, ap₂, ◌∙◌, arith, subst, append-nil, append_assoc, eqb-true, ne_eqb}
 use Rattle.std.proofs.lemmas.List.{length-map}
 use Rattle.level_terms.specs.declared.node.Node.TheVariants.{Lam, App, Var}
 use Rattle.level_terms.specs.declared.node.TermId.{TermId}
@@ -20,17 +20,19 @@ use Rattle.ref_terms.specs.terms.Occurs.{has_name}
 use Rattle.ref_terms.specs.unification.Closing.{close}
 use Rattle.ref_terms.specs.unification.Spine.{apply_all}
 use Rattle.ref_terms.specs.lemmas.NameLemmas.{close-apply}
-use Rattle.beta_fragment.specs.Names.{names}
+use Rattle.beta_fragment.specs.Names.{names, renamed}
 use Rattle.beta_fragment.specs.HeadForm.{AllValidAt, all_read}
 use Rattle.beta_fragment.specs.Firm.{IsPlain, IsPlainNode}
 use Rattle.beta_fragment.specs.Moves.{Lacks}
+use Rattle.beta_fragment.specs.Cells.{term_at, Gains, IsKept}
+use Rattle.beta_fragment.proofs.CellLemmas.{kept-gains}
 use Rattle.beta_fragment.specs.declared.equality.Pair.{Pair}
 use Rattle.beta_fragment.specs.Pairs.{IsValidPair, AllValidPairs, IsSame, AllSame, pair_size, pairs_size, pairs_of, StandsFor, Divides, TurnsOut, IsValueOf}
 use Rattle.beta_fragment.proofs.EnterLemmas.{names-places, body-entered, body-valid}
 use Rattle.beta_fragment.proofs.FirmLemmas.{apply-plain, reads-value}
 use Rattle.beta_fragment.proofs.MoveLemmas.{app-valid, below_true}
 use Rattle.beta_fragment.proofs.NamelessLemmas.{nameless-read}
-use Rattle.beta_fragment.proofs.ReadLemmas.{read-built}
+use Rattle.beta_fragment.proofs.ReadLemmas.{read-built, valid-below}
 use Rattle.beta_fragment.proofs.StayLemmas.{lam-stays, var-low}
 use Rattle.beta_fragment.proofs.WorkLemmas.{size-some, total, app-size, lam-size}
 
@@ -215,6 +217,39 @@ pairs-next d [] us i z z' h k = absurd (omega (arith, h))
 pairs-next d (t ∷ ts) [] i z z' h k = absurd (omega (arith, k))
 pairs-next d (t ∷ ts) (u ∷ us) zero z z' h k = refl
 pairs-next d (t ∷ ts) (u ∷ us) (suc i) z z' h k = ap (λ (ps : List Pair). record { left = t; right = u; depth = d } ∷ ps) (pairs-next d ts us i z z' (omega (arith, h)) (omega (arith, k)))
+
+pub pairs-after : (d : ℕ) (ts us : List TermId) (i n : ℕ) (z z' : TermId) → n ≡ suc i → i < length ts → i < length us → pairs_of d (take n ts) (take n us) ≡ pairs_of d (take i ts) (take i us) ++ record { left = get_or ts i z; right = get_or us i z'; depth = d } ∷ []
+pairs-after d ts us i n z z' q h k = ap (λ m. pairs_of d (take m ts) (take m us)) q ∙ pairs-next d ts us i z z' h k
+
+-- nodes that are there
+pub left-there : (g : Graph) (p : Pair) → IsValidPair g p → p.left.index < length g.nodes
+left-there g p v = valid-below g p.left.index p.depth v.0
+
+pub right-there : (g : Graph) (p : Pair) → IsValidPair g p → p.right.index < length g.nodes
+right-there g p v = valid-below g p.right.index p.depth v.1
+
+pub head-there : (g : Graph) (t d : ℕ) (k : TermId) (ts : List TermId) → IsSound g → node_at g.nodes t ≡ Some (App k ts) → IsValid g t d → k.index < length g.nodes
+head-there g t d k ts s e v = valid-below g k.index d (app-valid g t d k ts s e v).0
+
+-- what a variable's node stands for
+pub value-found : (g : Graph) (t : ℕ) (v : VarId) (o : Option TermId) → IsSound g → node_at g.nodes t ≡ Some (Var v) → option_map (λ r. r.index) o ≡ value_in g.assigned v.index → IfSome o (λ r. IsValueOf g t r.index)
+value-found g t v None s e f = tt
+value-found g t v (Some r) s e f = value-of-var g t r.index v s e (sym f)
+
+pub one-variable : (g : Graph) (p : Pair) (v : VarId) → IsSound g → node_at g.nodes p.left.index ≡ Some (Var v) → node_at g.nodes p.right.index ≡ Some (Var v) → IsSame g p
+one-variable g p v s e f = nodes_read g p.left.index (Var v) names s names-places e ∙ sym (nodes_read g p.right.index (Var v) names s names-places f)
+
+-- both nodes as terms that are kept
+own-reads : (g : Graph) (t depth : ℕ) (ls : List ℕ) → IsValid g t depth → ((i : ℕ) → i < depth → slice_index ls i ≡ i) → read g t (renamed ls) ≡ read g t names
+own-reads g t depth ls v own = readings_local g t depth (renamed ls) names v (λ i h. ap names (own i h))
+
+pub wholes-told : {E : Type 0} (g : Graph) (p : Pair) (ls : List ℕ) (before after : List Term) (i j : ℕ) (r : Result Bool E) → IsValidPair g p → ((i : ℕ) → i < p.depth → slice_index ls i ≡ i) → Gains before after → IsKept before i (read g p.left.index (renamed ls)) → IsKept after j (read g p.right.index (renamed ls)) →
+    IfOk r (λ e. IsTrue e ↔ (term_at after i ≡ term_at after j)) → IfOk r (λ e. IsTrue e ↔ IsSame g p)
+wholes-told g p ls before after i j r v own gains left right told =
+    let first : term_at after i ≡ read g p.left.index names = (kept-gains before after i (read g p.left.index (renamed ls)) gains left).term ∙ own-reads g p.left.index p.depth ls v.0 own in
+    let second : term_at after j ≡ read g p.right.index names = right.term ∙ own-reads g p.right.index p.depth ls v.1 own in
+    subst (λ (x : Term). IfOk r (λ e. IsTrue e ↔ (x ≡ read g p.right.index names))) first
+    (subst (λ (y : Term). IfOk r (λ e. IsTrue e ↔ (term_at after i ≡ y))) second told)
 
 -- a turn of the comparison, where the pair was the last of a list
 module _ (g : Graph) (p : Pair) (work rest new : List Pair) (split : work ≡ rest ++ p ∷ []) where

@@ -68,7 +68,10 @@ fn compared_nodes(
     requires { IsValidPair heap.now pair }
     ensures { IfOk result (λ e. TurnsOut heap.now pair work.old.items work.new.items e) }
 {
-    if pair.left.index == pair.right.index || is_one_variable(heap, pair) {
+    if pair.left.index == pair.right.index {
+        return Ok(true);
+    }
+    if is_one_variable(heap, pair) {
         return Ok(true);
     }
     if let Some(next) = next_pair(heap, pair) {

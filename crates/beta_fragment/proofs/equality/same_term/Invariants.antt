@@ -7,8 +7,8 @@ use Rattle.beta_fragment.proofs.equality.same_term.Given as goal
 abbrev pub invariant-loop-pair : goal.invariant-loop-pair
 invariant-loop-pair l = record {
   valid : AllValidPairs l.heap l.work.items;
-  whole : AllSame l.heap l.work.items → read l.heap l.s.index names ≡ read l.heap l.t.index names;
-  each : read l.heap l.s.index names ≡ read l.heap l.t.index names → AllSame l.heap l.work.items;
+  whole : AllSame l.heap l.work.items → read l.heap l.fn.s.index names ≡ read l.heap l.fn.t.index names;
+  each : read l.heap l.fn.s.index names ≡ read l.heap l.fn.t.index names → AllSame l.heap l.work.items;
 }
 
 abbrev pub decreases-loop-pair : goal.decreases-loop-pair
