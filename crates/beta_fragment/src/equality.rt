@@ -151,8 +151,16 @@ fn bodies_of(heap: &Heap, pair: Pair) -> Option<Pair>
     ensures { IfSome result (λ next. StandsFor heap.now pair next) }
 {
     heap.is_sound();
-    if let Node::Lam { depth: made, body: left } = heap.view(pair.left) {
-        if let Node::Lam { depth: other, body: right } = heap.view(pair.right) {
+    if let Node::Lam {
+        depth: made,
+        body: left,
+    } = heap.view(pair.left)
+    {
+        if let Node::Lam {
+            depth: other,
+            body: right,
+        } = heap.view(pair.right)
+        {
             if *made == *other {
                 let depth = made.checked_add(1)?;
                 return Some(Pair {
@@ -198,8 +206,16 @@ fn push_parts(heap: &Heap, pair: Pair, work: &mut Vec<Pair>) -> Result<bool, All
     ensures { IfOk result (λ done. MayDivide heap.now pair work.old.items work.new.items done) }
 {
     heap.is_sound();
-    if let Node::App { head: left, args: first } = heap.view(pair.left) {
-        if let Node::App { head: right, args: second } = heap.view(pair.right) {
+    if let Node::App {
+        head: left,
+        args: first,
+    } = heap.view(pair.left)
+    {
+        if let Node::App {
+            head: right,
+            args: second,
+        } = heap.view(pair.right)
+        {
             if first.len() == second.len() && is_plain(heap, *left) && is_plain(heap, *right) {
                 push_pairs(first.as_slice(), second.as_slice(), pair.depth, work)?;
                 work.push(Pair {

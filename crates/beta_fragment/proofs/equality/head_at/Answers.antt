@@ -1,4 +1,4 @@
-use Rattle.std.proofs.Common.{◌≡◌, ◌∙◌, ap, sym, Some, rules}
+use Rattle.std.proofs.Common.{◌∙◌, ap, sym, Some, rules}
 use Rattle.level_terms.specs.declared.node.Node.TheVariants.{Con, Str, Level}
 use Rattle.level_terms.proofs.NodeLemmas.{nodes_read}
 use Rattle.ref_terms.specs.terms.Term as term

@@ -1,4 +1,4 @@
-use Rattle.std.proofs.Common.{◌≡◌, ◌∙◌, ap, Some}
+use Rattle.std.proofs.Common.{◌∙◌, ap, Some}
 use Rattle.beta_fragment.proofs.PairLemmas.{left-there, right-there, one-variable}
 use Rattle.beta_fragment.proofs.equality.is_one_variable.Goals as goal
 

@@ -1,4 +1,4 @@
-use Rattle.std.proofs.Common.{◌≡◌, ◌∙◌, ◌++◌, ◌∷◌, [], ◌+◌, ◌<◌, suc, length, take, get_or, ap, sym, arith, append_assoc, List}
+use Rattle.std.proofs.Common.{◌∙◌, ◌++◌, ◌∷◌, [], ◌+◌, ◌<◌, length, take, get_or, ap, sym, arith, append_assoc, List}
 use Rattle.beta_fragment.specs.declared.equality.Pair.{Pair}
 use Rattle.beta_fragment.specs.Pairs.{pairs_of}
 use Rattle.beta_fragment.proofs.PairLemmas.{pairs-after}

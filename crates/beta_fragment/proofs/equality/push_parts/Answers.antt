@@ -1,4 +1,4 @@
-use Rattle.std.proofs.Common.{◌≡◌, ◌∙◌, ◌++◌, ap, ap₂, sym, Some, List}
+use Rattle.std.proofs.Common.{◌∙◌, ◌++◌, ap, ap₂, sym, Some, List}
 use Rattle.level_terms.specs.declared.node.TermId.{TermId}
 use Rattle.beta_fragment.specs.Pairs.{pairs_of}
 use Rattle.beta_fragment.proofs.PairLemmas.{left-there, right-there, head-there, apps-divide}
