@@ -22,3 +22,5 @@ pub mod CellLemmas
 pub mod LevelListLemmas
 pub mod QuotableLemmas
 pub mod SettledLemmas
+pub mod ComparedLemmas
+pub mod PairLemmas

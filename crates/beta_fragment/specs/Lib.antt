@@ -10,3 +10,5 @@ pub mod Cells
 pub mod Quoted
 pub mod LevelList
 pub mod Settled
+pub mod Compared
+pub mod Pairs
