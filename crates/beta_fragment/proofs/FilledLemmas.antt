@@ -1,5 +1,5 @@
 -- Bodies with a term for their own name.
-use Rattle.std.proofs.Common.{◌≡◌, ℕ, zero, suc, ◌<◌, ◌≤◌, ◌-◌, ◌+◌, List, [], cond, nat_eq, nat_lt, Bool, true, false, Some, refl, sym, ap, ap₂, ◌∙◌, arith, subst, eqb-true, eq-eqb, ne_eqb}
+use Rattle.std.proofs.Common.{◌≡◌, ℕ, zero, suc, ◌<◌, ◌≤◌, ◌-◌, ◌+◌, List, [], length, slice_index, cond, nat_eq, nat_lt, Bool, true, false, Some, refl, sym, ap, ap₂, ◌∙◌, arith, subst, eqb-true, eq-eqb, ne_eqb}
 use mathlib.Core.Path.{fun_ext}
 use Rattle.level_terms.specs.declared.node.TermId.{TermId}
 use Rattle.level_terms.specs.Graph.{Graph, node_at}
@@ -17,13 +17,16 @@ use Rattle.ref_terms.specs.terms.Apply.{apply, below, fill, opened, open_with}
 use Rattle.ref_terms.specs.terms.Occurs.{is_name, has_name}
 use Rattle.ref_terms.specs.lemmas.ComposeLemmas.{fill-shift}
 use Rattle.ref_terms.specs.lemmas.NameLemmas.{fill-agree_names}
-use Rattle.beta_fragment.specs.Names.{names}
+use Rattle.beta_fragment.specs.Names.{names, renamed}
 use Rattle.beta_fragment.specs.Body.{at_name, opened_reads}
 use Rattle.beta_fragment.specs.Moves.{Value, value_of, Puts, around, put_name, Lacks}
+use Rattle.beta_fragment.specs.Quoted.{AllHeads, IsOpenHead, put_head}
+use Rattle.beta_fragment.specs.Settled.{IsQuotable}
 use Rattle.beta_fragment.proofs.ReadLemmas.{read-follows}
 use Rattle.beta_fragment.proofs.EnterLemmas.{entered, first-places}
 use Rattle.beta_fragment.proofs.MoveLemmas.{below_true, below_false}
 use Rattle.beta_fragment.proofs.NamelessLemmas.{lacks-enter, nameless-read}
+use Rattle.beta_fragment.proofs.QuotableLemmas.{quotable-spine}
 
 -- replacing heads after replacing indices, by heads alone
 below-after : (r : Head → Term) (s : ℕ → Term) (h : Head) → fill (below r) (sub_head (under s) h) ≡ below (λ k. fill r (sub_head s k)) h
@@ -92,18 +95,48 @@ body-low depth made i low h = go (nat_eq made i) refl
     go true e = refl
     go false e = let lt = step_down made i e h in ap shift (low-same depth i (omega (arith, lt, low)))
 
+-- a node in the place of the name of the depth, put by a walk
+pub puts-reads : (g h : Graph) (depth : ℕ) (t put r : TermId) → IsValid g put.index depth → IsValid g t.index (depth + 1) → Puts g (read g put.index) depth t.index (depth + 1) (value_of h r) →
+    read h r.index names ≡ fill (put_name depth (read g put.index names)) (read g t.index names)
+puts-reads g h depth t put r vp vt m =
+    readings_local h r.index depth names (low_names depth) (m.holds depth (omega arith)) (λ i q. low-same depth i q)
+    ∙ m.term (low_names depth) (low-places depth) (low-lack depth)
+    ∙ ap₂ (λ (s b : Term). fill (put_name depth s) b)
+    (sym (readings_local g put.index depth names (low_names depth) vp (λ i q. low-same depth i q)))
+    (readings_local g t.index (depth + 1) (around depth (low_names depth)) names vt (λ i q. around-same depth i (omega (arith, q))))
+
+pub puts-valid : (g h : Graph) (depth : ℕ) (t put r : TermId) → Puts g (read g put.index) depth t.index (depth + 1) (value_of h r) → IsValid h r.index depth
+puts-valid g h depth t put r m = m.holds depth (omega arith)
+
+-- a body with a node in the place of its own name
 pub filled-reads : (g h k : Graph) (depth made : ℕ) (body arg node r : TermId) → IsSound g → made ≤ depth → IsValid g body.index (suc made) →
-    read h node.index names ≡ read g body.index (at_name made depth) → IsValid h node.index (depth + 1) → (read h arg.index ≡ read g arg.index) → IsValid g arg.index depth →
-    Puts h (read h arg.index) depth node.index (depth + 1) (value_of k r) → IsValid k r.index depth → read k r.index names ≡ opened_reads g made body.index (read g arg.index names)
-filled-reads g h k depth made body arg node r sg low vb reads vo same va m vr =
+    read h node.index names ≡ read g body.index (at_name made depth) → (read h arg.index ≡ read g arg.index) → read k r.index names ≡ fill (put_name depth (read h arg.index names)) (read h node.index names) →
+    read k r.index names ≡ opened_reads g made body.index (read g arg.index names)
+filled-reads g h k depth made body arg node r sg low vb reads same filled =
     let named : read g body.index (at_name made depth) ≡ sub (first (names depth)) (read g body.index (enter made names)) =
     ap (read g body.index) (fun_ext (λ i. sym (entered made (names depth) names i))) ∙ sym (read-follows g sg body.index (enter made names) (first (names depth)) (first-places (names depth) tt)) in
     let lacks : has_name depth (read g body.index (enter made names)) ≡ false =
     ap (has_name depth) (readings_local g body.index (suc made) (enter made names) (enter made (low_names depth)) vb (λ i q. body-low depth made i low q))
     ∙ nameless-read depth g body.index (enter made (low_names depth)) (lacks-enter depth made (low_names depth) (low-lack depth)) in
-    readings_local k r.index depth names (low_names depth) vr (λ i q. low-same depth i q)
-    ∙ m.term (low_names depth) (low-places depth) (low-lack depth)
-    ∙ ap₂ (λ (s b : Term). fill (put_name depth s) b)
-    (ap (λ f. f (low_names depth)) same ∙ sym (readings_local g arg.index depth names (low_names depth) va (λ i q. low-same depth i q)))
-    (readings_local h node.index (depth + 1) (around depth (low_names depth)) names vo (λ i q. around-same depth i (omega (arith, q))) ∙ reads ∙ named)
+    filled
+    ∙ ap₂ (λ (s b : Term). fill (put_name depth s) b) (ap (λ f. f names) same) (reads ∙ named)
     ∙ named-open depth (read g arg.index names) (read g body.index (enter made names)) lacks
+
+-- levels that stand for their own names
+own-read : (g : Graph) (t inner : ℕ) (ls : List ℕ) → IsValid g t inner → ((i : ℕ) → i < inner → slice_index ls i ≡ i) → read g t (renamed ls) ≡ read g t names
+own-read g t inner ls v own = readings_local g t inner (renamed ls) names v (λ i h. ap names (own i h))
+
+-- a node that was kept by its parts can be quoted, and reads as what is quoted
+pub reduced-quotable : (g : Graph) (depth inner t : ℕ) (ls slice : List ℕ) (x : Term) → IsSound g → IsValid g t (depth + 1) → inner ≡ depth + 1 → length ls ≡ inner → ((i : ℕ) → i < inner → slice_index ls i ≡ i) → slice ≡ ls →
+    x ≡ read g t (renamed slice) → AllHeads (IsOpenHead g) x → IsQuotable g (suc depth) x
+reduced-quotable g depth inner t ls slice x s v e long own q reads heads =
+    quotable-spine g (suc depth) t ls [] x s
+    (subst (IsValid g t) (let k : depth + 1 ≡ length ls = omega (arith, e, long) in k) v)
+    (λ i h. (let lt : i < inner = omega (arith, h, long) in let here = own i lt in omega (arith, here, lt, e)))
+    tt (reads ∙ ap (λ (zs : List ℕ). read g t (renamed zs)) q) heads
+
+pub reduced-reads : (g h : Graph) (depth inner : ℕ) (t put r : TermId) (ls slice : List ℕ) (x : Term) → IsValid g t.index (depth + 1) → inner ≡ depth + 1 → ((i : ℕ) → i < inner → slice_index ls i ≡ i) → slice ≡ ls →
+    x ≡ read g t.index (renamed slice) → read h r.index names ≡ fill (put_head g depth (Some put)) x → read h r.index names ≡ fill (put_name depth (read g put.index names)) (read g t.index names)
+reduced-reads g h depth inner t put r ls slice x v e own q reads quoted =
+    quoted ∙ ap (fill (put_name depth (read g put.index names)))
+    (reads ∙ ap (λ (zs : List ℕ). read g t.index (renamed zs)) q ∙ own-read g t.index inner ls (subst (IsValid g t.index) (sym e) v) own)

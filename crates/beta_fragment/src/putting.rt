@@ -279,7 +279,8 @@ fn is_direct(heap: &Heap, task: Task) -> bool
 {
     match task {
         Task::Visit { node, .. } => has_plain_head(heap, node),
-        _ => true,
+        Task::Lam { .. } => true,
+        Task::App { .. } => true,
     }
 }
 

@@ -1,5 +1,6 @@
-use Rattle.std.proofs.Common.{◌≡◌, ◌≤◌, length, ap, sym, subst, arith, []}
-use Rattle.level_terms.proofs.GrowthLemmas.{grows-refl}
+use Rattle.std.proofs.Common.{◌≡◌, ℕ, ◌≤◌, List, length, ap, sym, subst, arith}
+use Rattle.level_terms.specs.Valid.{IsValid}
+use Rattle.beta_fragment.specs.Names.{AllBelow}
 use Rattle.beta_fragment.proofs.ReadLemmas.{valid-below}
 use Rattle.beta_fragment.proofs.HeadLemmas.{lam-within}
 use Rattle.beta_fragment.proofs.head.held.Goals as goal
@@ -18,5 +19,8 @@ flex-requires-clause-count c =
     let within = lam-within c.args.heap.now c.args.t.index c.args.made c.args.body (length c.args.levels.now) c.is_sound.ensures c.requires.here c.requires.valid in
     omega (arith, within)
 
-pub returns-in-None-clause-grows : goal.returns-in-None-clause-grows
-returns-in-None-clause-grows c = grows-refl c.args.heap.now []
+pub settled-requires-clause-head : goal.settled-requires-clause-head
+settled-requires-clause-head c = subst (λ (ls : List ℕ). IsValid c.args.heap.now c.args.t.index (length ls)) (sym c.as_slice-in-None.ensures.value) c.requires.valid
+
+pub settled-requires-clause-below : goal.settled-requires-clause-below
+settled-requires-clause-below c = subst (λ ls. AllBelow ls c.args.depth) (sym c.as_slice-in-None.ensures.value) c.requires.moves.below

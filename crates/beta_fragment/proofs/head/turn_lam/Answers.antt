@@ -1,7 +1,9 @@
 use Rattle.std.proofs.Common.{◌≡◌, ℕ, ◌+◌, ◌∙◌, ◌++◌, ◌∷◌, List, take, min, reverse, [], ap, sym, subst, arith, length, vec_len, None}
 use Rattle.std.specs.Prelude.{MatchOption}
 use Rattle.level_terms.specs.declared.node.TermId.{TermId}
+use Rattle.level_terms.specs.Valid.{IsValid}
 use Rattle.level_terms.proofs.GrowthLemmas.{grows-refl}
+use Rattle.beta_fragment.specs.Names.{AllBelow}
 use Rattle.beta_fragment.specs.Turn.{IsFirst}
 use Rattle.beta_fragment.specs.declared.glance.Readiness.TheVariants.{Level}
 use Rattle.beta_fragment.proofs.TurnLemmas.{lam-turn, pop-split}
@@ -13,8 +15,11 @@ returns-in_err-push-in-Level-clause-grows c = grows-refl c.args.heap.now []
 pub returns-in_ok-push-in-Level-clause-grows : goal.returns-in_ok-push-in-Level-clause-grows
 returns-in_ok-push-in-Level-clause-grows c = grows-refl c.args.heap.now []
 
-pub returns-in-Unknown-clause-grows : goal.returns-in-Unknown-clause-grows
-returns-in-Unknown-clause-grows c = grows-refl c.args.heap.now []
+pub settled-requires-clause-head : goal.settled-requires-clause-head
+settled-requires-clause-head c = subst (λ (ls : List ℕ). IsValid c.args.heap.now c.args.head.index (length ls)) (sym c.as_slice-in-Unknown.ensures.value) c.requires.valid
+
+pub settled-requires-clause-below : goal.settled-requires-clause-below
+settled-requires-clause-below c = subst (λ ls. AllBelow ls c.args.depth) (sym c.as_slice-in-Unknown.ensures.value) c.requires.moves.below
 
 pub returns-in_ok-push-in-Level-clause-turn : goal.returns-in_ok-push-in-Level-clause-turn
 returns-in_ok-push-in-Level-clause-turn c =

@@ -1,8 +1,8 @@
-use Rattle.std.proofs.Common.{◌≡◌, ◌∙◌, ap, Some, [], List}
+use Rattle.std.proofs.Common.{◌≡◌, ◌∙◌, ap, subst, Some, [], List}
 use Rattle.std.proofs.lemmas.Result.{on_ok_weaker}
 use Rattle.level_terms.proofs.GrowthLemmas.{grows-refl}
+use Rattle.beta_fragment.specs.Settled.{HasPlainHead}
 use Rattle.beta_fragment.proofs.StayLemmas.{lam-stays, var-stays, con-stays, int-stays, str-stays}
-use Rattle.beta_fragment.proofs.MakeLemmas.{parts-there}
 use Rattle.beta_fragment.proofs.VarLemmas.{var-known}
 use Rattle.beta_fragment.proofs.putting.put_at.Goals as goal
 
@@ -33,11 +33,11 @@ put_kept-requires-in-Str-clause-valid c = λ s v. str-stays c.args.heap.now c.ar
 pub returns-else-depth-level-clause-grows : goal.returns-else-depth-level-clause-grows
 returns-else-depth-level-clause-grows c = grows-refl c.args.heap.now []
 
-pub returns-then-is_plain-clause-grows : goal.returns-then-is_plain-clause-grows
-returns-then-is_plain-clause-grows c = grows-refl c.args.heap.now []
+pub put_at_app-requires-clause-plain : goal.put_at_app-requires-clause-plain
+put_at_app-requires-clause-plain c = subst (HasPlainHead c.args.heap.now) (c.view.ensures ∙ ap Some c.in-App.is) c.requires.plain
 
-pub returns-else-is_plain-clause-grows : goal.returns-else-is_plain-clause-grows
-returns-else-is_plain-clause-grows c = grows-refl c.args.heap.now []
+pub returns-in-App-clause-grows : goal.returns-in-App-clause-grows
+returns-in-App-clause-grows c = grows-refl c.args.heap.now []
 
 pub returns-in-Con-clause-grows : goal.returns-in-Con-clause-grows
 returns-in-Con-clause-grows c = grows-refl c.args.heap.now []
@@ -47,6 +47,3 @@ returns-in-Int-clause-grows c = grows-refl c.args.heap.now []
 
 pub returns-in-Str-clause-grows : goal.returns-in-Str-clause-grows
 returns-in-Str-clause-grows c = grows-refl c.args.heap.now []
-
-pub is_plain-requires : goal.is_plain-requires
-is_plain-requires c = (parts-there c.args.heap.now c.args.node.index _ c.is_sound.ensures (c.view.ensures ∙ ap Some c.in-App.is)).0

@@ -1,18 +1,32 @@
-use Rattle.std.proofs.Common.{◌≡◌, ◌<◌, ◌≤◌, ◌+◌, ◌++◌, ◌∷◌, [], List, length, map, reverse, ap, sym, ◌∙◌, subst, arith}
+use Rattle.std.proofs.Common.{◌≡◌, ℕ, ◌<◌, ◌≤◌, ◌+◌, ◌++◌, ◌∷◌, [], List, length, map, reverse, ap, sym, ◌∙◌, subst, arith}
 use Rattle.level_terms.specs.Sound.{AllOlder}
 use Rattle.level_terms.specs.Reading.{read}
 use Rattle.level_terms.specs.declared.node.TermId.{TermId}
 use Rattle.level_terms.proofs.GrowthLemmas.{grows-refl, grows-trans}
 use Rattle.level_terms.proofs.ValidLemmas.{growth_keeps_valid}
 use Rattle.beta_fragment.specs.declared.renaming.Task.{Task}
-use Rattle.beta_fragment.specs.declared.renaming.Task.TheVariants.{Visit}
-use Rattle.beta_fragment.specs.Moves.{value_of, putting}
+use Rattle.beta_fragment.specs.declared.renaming.Task.TheVariants.{Visit, Lam, App}
+use Rattle.beta_fragment.specs.Moves.{value_of, Plan, putting}
+use Rattle.beta_fragment.specs.Settled.{IsTaskThere}
 use Rattle.beta_fragment.specs.Work.{Leads, IsLeading, work_size, Steps, IsReady}
 use Rattle.beta_fragment.proofs.ReadLemmas.{valid-below, grown-reads}
 use Rattle.beta_fragment.proofs.MakeLemmas.{older-last}
 use Rattle.beta_fragment.proofs.SplitLemmas.{empty-list}
 use Rattle.beta_fragment.proofs.WorkLemmas.{leads-ready, last-leads, some-done, newest-task}
 use Rattle.beta_fragment.proofs.putting.put_node.Goals as goal
+
+-- a task that can be done has its node
+task-there : (plan : Plan) (nodes done : ℕ) (task : Task) → IsReady plan nodes done task → IsTaskThere nodes task
+task-there plan nodes done (Visit n b) r = r.0
+task-there plan nodes done (Lam d) r = tt
+task-there plan nodes done (App m) r = tt
+
+pub is_direct-requires : goal.is_direct-requires
+is_direct-requires c =
+    let leads = subst (λ (ws : List Task). Leads c.args.heap.now (putting (read c.args.heap.now c.args.put.index) c.args.level) c.args.t.index 0 (c.args.level + 1) (reverse ws) (map (value_of c.loop-task.heap) c.loop-task.done.items)) c.in-Some.ensures.items c.loop-task.invariant.leads in
+    task-there (putting (read c.args.heap.now c.args.put.index) c.args.level) (length c.loop-task.heap.nodes) (length c.loop-task.done.items) c.in-Some.task
+    (leads-ready c.args.heap.now c.loop-task.heap (putting (read c.args.heap.now c.args.put.index) c.args.level) c.args.t.index 0 (c.args.level + 1) c.in-Some.task (reverse c.pop.new.self.items) c.loop-task.done.items c.loop-task.invariant.grows
+    (subst (λ (ks : List Task). Leads c.args.heap.now (putting (read c.args.heap.now c.args.put.index) c.args.level) c.args.t.index 0 (c.args.level + 1) ks (map (value_of c.loop-task.heap) c.loop-task.done.items)) (newest-task c.pop.new.self.items c.in-Some.task) leads))
 
 pub returns-in_err-work-clause-grows : goal.returns-in_err-work-clause-grows
 returns-in_err-work-clause-grows c = grows-refl c.args.heap.now []
