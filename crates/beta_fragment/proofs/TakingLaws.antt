@@ -1,9 +1,10 @@
 -- What terms in the place of indices are.
-use Rattle.std.proofs.Common.{◌≡◌, ℕ, zero, suc, ◌<◌, ◌≤◌, ◌+◌, ◌-◌, refl, sym, ap, ap₂, ◌∙◌, arith, Option, Some, None, option_map}
+use Rattle.std.proofs.Common.{◌≡◌, ℕ, zero, suc, ◌<◌, ◌≤◌, ◌+◌, ◌-◌, refl, sym, ap, ap₂, ◌∙◌, arith, Option, Some, None, option_map, false}
 use mathlib.Core.Path.{fun_ext}
 use Rattle.ref_terms.specs.terms.Term as term
 use Rattle.ref_terms.specs.terms.Term.{Term, Con, Bound}
 use Rattle.ref_terms.specs.terms.Index.{shift, next, under, sub, first}
+use Rattle.ref_terms.specs.terms.Ready.{ready}
 use Rattle.ref_terms.specs.terms.Eta.{both, up_partial, partial, previous, lower}
 use Rattle.beta_fragment.specs.declared.answer.RigidHead.{RigidHead}
 use Rattle.beta_fragment.specs.declared.answer.RigidHead.TheVariants as rigid
@@ -95,3 +96,8 @@ rigid-stays s (rigid.Con c) = refl
 rigid-stays s (rigid.Int c) = refl
 rigid-stays s (rigid.Str c) = refl
 rigid-stays s (rigid.Level c) = refl
+
+-- an application isn't ready
+pub ready-app : (f a : Term) → ready (term.App f a) ≡ false
+unfolding ready
+ready-app f a = refl

@@ -138,3 +138,50 @@ module _ (put : Replacement) where
 -- there is none
 pub none-kept : (now : List Term) (o : Option Term) → o ≡ None → IsKeptIfAny now None o
 none-kept now o e = subst (IsKeptIfAny now None) (sym e) tt
+
+-- what is pushed, and what was popped
+pub pushed : {A : Type 0} (rest all : List A) (x : A) → all ≡ rest ++ x ∷ [] → reverse all ≡ x ∷ reverse rest
+pushed rest all x e = ap reverse e ∙ newest rest x
+
+pub pushed-there : (new : List Term) (rest all : List ℕ) (r : ℕ) → all ≡ rest ++ r ∷ [] → r < length new → AllThere (length new) (reverse rest) → AllThere (length new) (reverse all)
+pushed-there new rest all r e h there = subst (AllThere (length new)) (sym (pushed rest all r e)) (h, there)
+
+module _ (put : Replacement) where
+  -- the steps over lists as the walk keeps them, oldest first
+  pub kept-steps : (old new : List Term) (work : List Task) (done all : List ℕ) (t k r : ℕ) (x : Term) → Gains old new → AllThere (length old) (reverse done) → replaced (images put k) (term_at old t) ≡ Some x → IsKept new r x → all ≡ done ++ r ∷ [] →
+      Steps put true (record { terms = old; work = Visit t k ∷ work; done = reverse done }) (record { terms = new; work = work; done = reverse all })
+  kept-steps old new work done all t k r x g there e kept p =
+      subst (λ ds. Steps put true (record { terms = old; work = Visit t k ∷ work; done = reverse done }) (record { terms = new; work = work; done = ds })) (sym (pushed done all r p))
+      (steps-done put old new work (reverse done) t k r x g there e kept)
+
+  pub visits-lam : (old : List Term) (work one all : List Task) (done : List ℕ) (t k b inner : ℕ) → b < t → term_at old t ≡ term.Lam (term_at old b) → inner ≡ k + 1 → one ≡ work ++ Lam ∷ [] → all ≡ one ++ Visit b inner ∷ [] →
+      Steps put true (record { terms = old; work = Visit t k ∷ reverse work; done = done }) (record { terms = old; work = reverse all; done = done })
+  visits-lam old work one all done t k b inner below e i p q =
+      let same : reverse all ≡ Visit b (k + 1) ∷ Lam ∷ reverse work = pushed one all (Visit b inner) q ∙ ap₂ (λ (n : ℕ) (ws : List Task). Visit b n ∷ ws) i (pushed work one Lam p) in
+      subst (λ ws. Steps put true (record { terms = old; work = Visit t k ∷ reverse work; done = done }) (record { terms = old; work = ws; done = done })) (sym same)
+      (steps-lam put old (reverse work) done t k b below e)
+
+  pub visits-app : (old : List Term) (work one two all : List Task) (done : List ℕ) (t k f a : ℕ) → f < t → a < t → term_at old t ≡ term.App (term_at old f) (term_at old a) → one ≡ work ++ App ∷ [] → two ≡ one ++ Visit a k ∷ [] → all ≡ two ++ Visit f k ∷ [] →
+      Steps put true (record { terms = old; work = Visit t k ∷ reverse work; done = done }) (record { terms = old; work = reverse all; done = done })
+  visits-app old work one two all done t k f a below below' e p q r =
+      let same : reverse all ≡ Visit f k ∷ Visit a k ∷ App ∷ reverse work =
+      pushed two all (Visit f k) r ∙ ap (λ (ws : List Task). Visit f k ∷ ws) (pushed one two (Visit a k) q ∙ ap (λ (ws : List Task). Visit a k ∷ ws) (pushed work one App p)) in
+      subst (λ ws. Steps put true (record { terms = old; work = Visit t k ∷ reverse work; done = done }) (record { terms = old; work = ws; done = done })) (sym same)
+      (steps-app put old (reverse work) done t k f a below below' e)
+
+  pub makes-lam : (old new : List Term) (work : List Task) (done rest all : List ℕ) (b r : ℕ) → Gains old new → AllThere (length old) (reverse done) → IsKept new r (term.Lam (term_at old b)) → done ≡ rest ++ b ∷ [] → all ≡ rest ++ r ∷ [] →
+      Steps put true (record { terms = old; work = Lam ∷ work; done = reverse done }) (record { terms = new; work = work; done = reverse all })
+  makes-lam old new work done rest all b r g there kept p q =
+      let first = subst (AllThere (length old)) (pushed rest done b p) there in
+      subst (λ ds. Steps put true (record { terms = old; work = Lam ∷ work; done = reverse done }) (record { terms = new; work = work; done = ds })) (sym (pushed rest all r q))
+      (subst (λ ds. Steps put true (record { terms = old; work = Lam ∷ work; done = ds }) (record { terms = new; work = work; done = r ∷ reverse rest })) (sym (pushed rest done b p))
+      (steps-made_lam put old new work (reverse rest) b r g first.1 kept))
+
+  pub makes-app : (old new : List Term) (work : List Task) (done one rest all : List ℕ) (f a r : ℕ) → Gains old new → AllThere (length old) (reverse done) → IsKept new r (term.App (term_at old f) (term_at old a)) → done ≡ one ++ a ∷ [] → one ≡ rest ++ f ∷ [] → all ≡ rest ++ r ∷ [] →
+      Steps put true (record { terms = old; work = App ∷ work; done = reverse done }) (record { terms = new; work = work; done = reverse all })
+  makes-app old new work done one rest all f a r g there kept p p' q =
+      let two : reverse done ≡ a ∷ f ∷ reverse rest = pushed one done a p ∙ ap (λ (ds : List ℕ). a ∷ ds) (pushed rest one f p') in
+      let first = subst (AllThere (length old)) two there in
+      subst (λ ds. Steps put true (record { terms = old; work = App ∷ work; done = reverse done }) (record { terms = new; work = work; done = ds })) (sym (pushed rest all r q))
+      (subst (λ ds. Steps put true (record { terms = old; work = App ∷ work; done = ds }) (record { terms = new; work = work; done = r ∷ reverse rest })) (sym two)
+      (steps-made_app put old new work (reverse rest) f a r g first.1.1 kept))
