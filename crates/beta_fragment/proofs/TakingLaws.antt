@@ -1,5 +1,5 @@
 -- What terms in the place of indices are.
-use Rattle.std.proofs.Common.{◌≡◌, ℕ, zero, suc, ◌<◌, ◌≤◌, ◌+◌, ◌-◌, refl, sym, ap, ap₂, ◌∙◌, arith, Option, Some, None, option_map, false}
+use Rattle.std.proofs.Common.{◌≡◌, ℕ, zero, suc, ◌<◌, ◌≤◌, ◌+◌, ◌-◌, refl, sym, ap, ap₂, ◌∙◌, arith, Option, Some, None, option_map, false, List}
 use mathlib.Core.Path.{fun_ext}
 use Rattle.ref_terms.specs.terms.Term as term
 use Rattle.ref_terms.specs.terms.Term.{Term, Con, Bound}
@@ -11,7 +11,10 @@ use Rattle.beta_fragment.specs.declared.answer.RigidHead.TheVariants as rigid
 use Rattle.beta_fragment.specs.declared.taking.Replacement.{Replacement}
 use Rattle.beta_fragment.specs.declared.taking.Replacement.TheVariants.{Head, Index, Missing}
 use Rattle.beta_fragment.specs.HeadForm.{rigid_head}
-use Rattle.beta_fragment.specs.Taking.{under_some, replaced, put_under, images, Puts}
+use Rattle.beta_fragment.specs.declared.cells.Cell.{Cell}
+use Rattle.beta_fragment.specs.declared.cells.Cell.TheVariants as cell
+use Rattle.beta_fragment.specs.Cells.{cell_term}
+use Rattle.beta_fragment.specs.Taking.{under_some, replaced, put_under, images, Puts, IsLeaf, leaf_term}
 
 -- where each index has a term
 under-some : (s : ℕ → Term) (n : ℕ) → under_some (λ i. Some (s i)) n ≡ Some (under s n)
@@ -101,3 +104,11 @@ rigid-stays s (rigid.Level c) = refl
 pub ready-app : (f a : Term) → ready (term.App f a) ≡ false
 unfolding ready
 ready-app f a = refl
+
+-- the term of a cell without parts
+pub leaf-at : (ts : List Term) (c : Cell) → IsLeaf c → cell_term ts c ≡ leaf_term c
+leaf-at ts (cell.Rigid h) l = refl
+leaf-at ts (cell.Bound i) l = refl
+leaf-at ts (cell.Var v) l = refl
+leaf-at ts (cell.Lam b) l = absurd l
+leaf-at ts (cell.App f a) l = absurd l
