@@ -22,3 +22,4 @@ pub mod CellLemmas
 pub mod KeptLemmas
 pub mod TakingLaws
 pub mod TakingSteps
+pub mod ApplyingLemmas

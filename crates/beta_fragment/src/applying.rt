@@ -5,8 +5,9 @@ ghost use Rattle.ref_terms.specs.terms.Term as term;
 ghost use Rattle.ref_terms.specs.terms.Term.{Term};
 ghost use Rattle.ref_terms.specs.terms.Apply.{apply};
 ghost use Rattle.ref_terms.specs.terms.Eta.{lam, eta};
-ghost use Rattle.ref_terms.specs.terms.Ready.{ready};
+ghost use Rattle.ref_terms.specs.terms.Ready.{ready, ready_head};
 ghost use Rattle.beta_fragment.specs.Cells.{terms_of, term_at, cell_term, Gains, IsKept, IsKeptIfAny};
+ghost use Rattle.beta_fragment.specs.HeadForm.{rigid_head};
 ghost use Rattle.beta_fragment.specs.Taking.{IsFirstIndex};
 
 use crate::answer::RigidHead;
@@ -14,14 +15,28 @@ use crate::cells::{Cell, Cells};
 use crate::taking::{lowered_term, opened_term};
 use std::alloc::{AllocError, Global};
 
+/// Whether a head is a name.
+fn is_name(head: RigidHead) -> bool
+    ensures { ready_head (rigid_head head) ≡ result }
+{
+    match head {
+        RigidHead::Con(_) => false,
+        RigidHead::Int(_) => false,
+        RigidHead::Str(_) => false,
+        RigidHead::Level(_) => true,
+    }
+}
+
 /// Whether the cell is of a name or an index.
 fn is_ready(cell: Cell) -> bool
     ensures { (ts : List Term) → ready (cell_term ts cell) ≡ result }
 {
     match cell {
-        Cell::Rigid(RigidHead::Level(_)) => true,
+        Cell::Rigid(h) => is_name(h),
         Cell::Bound(_) => true,
-        _ => false,
+        Cell::Var(_) => false,
+        Cell::Lam(_) => false,
+        Cell::App(_, _) => false,
     }
 }
 
