@@ -1,5 +1,5 @@
 -- Steps of the walk that puts a term in the place of an index.
-use Rattle.std.proofs.Common.{◌≡◌, ℕ, zero, suc, ◌<◌, ◌≤◌, ◌+◌, ◌*◌, List, [], ◌∷◌, ◌++◌, length, map, reverse, refl, sym, ap, ap₂, ◌∙◌, arith, subst, Bool, true, false, Option, Some, None, option_map, MatchOption}
+use Rattle.std.proofs.Common.{◌≡◌, ℕ, suc, ◌<◌, ◌≤◌, ◌+◌, List, [], ◌∷◌, ◌++◌, length, map, reverse, refl, sym, ap, ap₂, ◌∙◌, arith, subst, true, false, Option, Some, None, option_map, MatchOption}
 use Rattle.std.proofs.lemmas.List.{reverse-append}
 use Rattle.ref_terms.specs.terms.Term as term
 use Rattle.ref_terms.specs.terms.Term.{Term}
@@ -8,7 +8,7 @@ use Rattle.beta_fragment.specs.declared.taking.Replacement.{Replacement}
 use Rattle.beta_fragment.specs.declared.taking.Task.{Task}
 use Rattle.beta_fragment.specs.declared.taking.Task.TheVariants.{Visit, Lam, App}
 use Rattle.beta_fragment.specs.Cells.{term_at, Gains, IsKept, IsKeptIfAny}
-use Rattle.beta_fragment.specs.Taking.{replaced, images, AllThere, Comes, term_size, work_size, State, IsComing, Goes, Steps, IsReady}
+use Rattle.beta_fragment.specs.Taking.{replaced, images, AllThere, Comes, term_size, Steps, IsReady}
 use Rattle.beta_fragment.proofs.CellLemmas.{gains-at, gains-longer}
 
 -- the newest item

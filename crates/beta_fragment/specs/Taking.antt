@@ -100,6 +100,7 @@ abbrev pub task_size : List Term → Task → ℕ
 task_size ts (Visit t k) = 2 * term_size (term_at ts t)
 task_size ts Lam = 1
 task_size ts App = 1
+
 abbrev pub work_size : List Term → List Task → ℕ
 work_size ts [] = 0
 work_size ts (task ∷ work) = task_size ts task + work_size ts work
@@ -109,6 +110,7 @@ pub record State : Type 0 where
   pub terms : List Term
   pub work : List Task
   pub done : List ℕ
+
 abbrev pub IsComing : Replacement → List Term → Option Term → State → Type 0
 IsComing put ts o st = Comes put ts st.work (map (term_at st.terms) st.done) o
 

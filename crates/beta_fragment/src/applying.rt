@@ -93,11 +93,7 @@ fn is_first_index(cell: Cell) -> bool
 }
 
 /// What the abstraction of a body contracts to by η, if it does.
-fn contracted(
-    alloc: Global,
-    cells: &mut Cells,
-    body: usize,
-) -> Result<Option<usize>, AllocError>
+fn contracted(alloc: Global, cells: &mut Cells, body: usize) -> Result<Option<usize>, AllocError>
     requires { body < length (terms_of cells.old) }
     ensures contracted { IfOk result (λ o. IsKeptIfAny (terms_of cells.new) o (eta (term_at (terms_of cells.old) body))) }
     ensures gains { Gains (terms_of cells.old) (terms_of cells.new) }

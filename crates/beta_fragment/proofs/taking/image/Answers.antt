@@ -12,11 +12,10 @@ returns-in-Head c = (tt, image-here c.args.put c.args.under c.args.i (omega arit
 
 pub returns-in_ok-raised-in-Index : goal.returns-in_ok-raised-in-Index
 returns-in_ok-raised-in-Index c =
-    let raised : c.in-Index.j + c.args.under ≡ c.in_ok-raised-in-Index.raised = omega (arith, c.in_ok-raised-in-Index.ensures) in
-    (
+    let raised : c.in-Index.j + c.args.under ≡ c.in_ok-raised-in-Index.raised = omega (arith, c.in_ok-raised-in-Index.ensures) in (
       tt,
       image-here c.args.put c.args.under c.args.i (omega arith) ∙ ap (λ p. put_under p c.args.under) c.in-Index.is
-      ∙ ap (λ n. Some (term.At (term.Bound n))) raised,
+          ∙ ap (λ n. Some (term.At (term.Bound n))) raised,
     )
 
 pub returns-in-Missing : goal.returns-in-Missing

@@ -1,4 +1,4 @@
-use Rattle.std.proofs.Common.{List, length, reverse, subst}
+use Rattle.std.proofs.Common.{length, reverse, subst}
 use Rattle.ref_terms.specs.terms.Term as term
 use Rattle.beta_fragment.specs.Cells.{terms_of, term_at}
 use Rattle.beta_fragment.specs.Taking.{AllThere}

@@ -1,5 +1,4 @@
-use Rattle.std.proofs.Common.{subst, None, Some, ◌≡◌, sym, ap, ◌∙◌}
-use Rattle.ref_terms.specs.terms.Index.{sub, first}
+use Rattle.std.proofs.Common.{subst, None, Some}
 use Rattle.beta_fragment.specs.Cells.{terms_of, term_at, IsKeptIfAny}
 use Rattle.beta_fragment.specs.Taking.{replaced, images}
 use Rattle.beta_fragment.proofs.TakingLaws.{opened-image}

@@ -1,5 +1,4 @@
 use Rattle.std.proofs.Common.{◌≡◌, true, false, sym, ap, ◌∙◌}
-use Rattle.ref_terms.specs.terms.Term as term
 use Rattle.ref_terms.specs.terms.Ready.{ready}
 use Rattle.beta_fragment.specs.Cells.{terms_of, term_at}
 use Rattle.ref_terms.specs.lemmas.ReadyFacts.{ready-var, ready-lam}

@@ -1,4 +1,4 @@
-use Rattle.std.proofs.Common.{◌≡◌, Some, ap, sym, ◌∙◌}
+use Rattle.std.proofs.Common.{Some, ap, sym, ◌∙◌}
 use Rattle.beta_fragment.specs.Taking.{images, replaced}
 use Rattle.beta_fragment.proofs.TakingLaws.{image-inside}
 use Rattle.beta_fragment.proofs.taking.visit.Goals as goal

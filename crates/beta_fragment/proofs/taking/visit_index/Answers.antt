@@ -1,7 +1,6 @@
-use Rattle.std.proofs.Common.{List, ◌≡◌, Some, None, ap, sym, ◌∙◌, length, reverse, subst}
-use Rattle.ref_terms.specs.terms.Term as term
-use Rattle.beta_fragment.specs.Cells.{terms_of, term_at, cell_term}
-use Rattle.beta_fragment.specs.Taking.{AllThere, IsImage, images, replaced}
+use Rattle.std.proofs.Common.{Some, ap, sym, ◌∙◌, reverse, subst}
+use Rattle.beta_fragment.specs.Cells.{terms_of, cell_term}
+use Rattle.beta_fragment.specs.Taking.{IsImage, images, replaced}
 use Rattle.beta_fragment.proofs.KeptLemmas.{added-kept, added-gains}
 use Rattle.beta_fragment.proofs.TakingLaws.{leaf-at}
 use Rattle.beta_fragment.proofs.TakingSteps.{pushed-there, done-there, kept-steps, steps-none}
