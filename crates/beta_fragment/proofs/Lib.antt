@@ -24,3 +24,7 @@ pub mod QuotableLemmas
 pub mod SettledLemmas
 pub mod ComparedLemmas
 pub mod PairLemmas
+pub mod KeptLemmas
+pub mod TakingLaws
+pub mod TakingSteps
+pub mod ApplyingLemmas

@@ -12,3 +12,4 @@ pub mod LevelList
 pub mod Settled
 pub mod Compared
 pub mod Pairs
+pub mod Taking

@@ -20,7 +20,7 @@ flex-requires-clause-count c =
     omega (arith, within)
 
 pub settled-requires-clause-head : goal.settled-requires-clause-head
-settled-requires-clause-head c = subst (λ (ls : List ℕ). IsValid c.args.heap.now c.args.t.index (length ls)) (sym c.as_slice-in-None.ensures.value) c.requires.valid
+settled-requires-clause-head c = c.requires.valid
 
 pub settled-requires-clause-below : goal.settled-requires-clause-below
-settled-requires-clause-below c = subst (λ ls. AllBelow ls c.args.depth) (sym c.as_slice-in-None.ensures.value) c.requires.moves.below
+settled-requires-clause-below c = c.requires.moves.below

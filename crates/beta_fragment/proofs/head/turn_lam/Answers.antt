@@ -16,10 +16,10 @@ pub returns-in_ok-push-in-Level-clause-grows : goal.returns-in_ok-push-in-Level-
 returns-in_ok-push-in-Level-clause-grows c = grows-refl c.args.heap.now []
 
 pub settled-requires-clause-head : goal.settled-requires-clause-head
-settled-requires-clause-head c = subst (λ (ls : List ℕ). IsValid c.args.heap.now c.args.head.index (length ls)) (sym c.as_slice-in-Unknown.ensures.value) c.requires.valid
+settled-requires-clause-head c = c.requires.valid
 
 pub settled-requires-clause-below : goal.settled-requires-clause-below
-settled-requires-clause-below c = subst (λ ls. AllBelow ls c.args.depth) (sym c.as_slice-in-Unknown.ensures.value) c.requires.moves.below
+settled-requires-clause-below c = c.requires.moves.below
 
 pub returns-in_ok-push-in-Level-clause-turn : goal.returns-in_ok-push-in-Level-clause-turn
 returns-in_ok-push-in-Level-clause-turn c =
