@@ -19,3 +19,5 @@ pub mod PutWork
 pub mod FilledLemmas
 pub mod LevelLemmas
 pub mod CellLemmas
+pub mod QuoteLemmas
+pub mod QuoteWork
