@@ -25,6 +25,8 @@ use Rattle.ref_terms.specs.unification.Spine.{apply_all}
 use Rattle.ref_terms.specs.lemmas.TermLemmas.{ren_sub}
 use Rattle.ref_terms.specs.lemmas.NameLemmas.{nat_eq_self}
 use Rattle.beta_fragment.specs.Names.{names}
+use Rattle.beta_fragment.specs.declared.answer.RigidHead.{RigidHead}
+use Rattle.beta_fragment.specs.HeadForm.{rigid_head}
 use Rattle.beta_fragment.specs.Moves.{Value, value_of, IsLamOf, IsAppOf, IsLevelOf, IsVarOf, put_name}
 use Rattle.beta_fragment.specs.Quoted.{AllNamesBelow, put_head, names_with, IsValidIfAny}
 use Rattle.beta_fragment.specs.Quoting.{within, heads_below, Quotes, IsHeadOf, Setting, heads_of, AllQuote, app_to, items_of}
@@ -176,3 +178,22 @@ put-grown g h depth (Some r) s w v = ap (λ (f : (ℕ → Term) → Term). put_n
 pub any-grown : (g h : Graph) (depth : ℕ) (put : Option TermId) → IsSound g → Grows g h [] [] → IsValidIfAny g put depth → IsValidIfAny h put depth
 any-grown g h depth None s w v = tt
 any-grown g h depth (Some r) s w v = growth_keeps_valid g h [] [] r.index depth s w (valid-below g r.index depth v) v
+
+-- a name other than that of the depth lies below it
+pub low-some : (depth n : ℕ) (put : Option TermId) (r : TermId) → put ≡ Some r → (n ≡ depth → ⊥) → AllNamesBelow (names_with depth put) (At (term.Name n)) → n < depth
+low-some depth n put r e other w =
+    let k : n < suc depth = name-below (suc depth) n (subst (λ (o : Option TermId). AllNamesBelow (names_with depth o) (At (term.Name n))) e w) in
+    omega (arith, k, other)
+
+pub low-none : (depth n : ℕ) (put : Option TermId) → put ≡ None → AllNamesBelow (names_with depth put) (At (term.Name n)) → n < depth
+low-none depth n put e w = name-below depth n (subst (λ (o : Option TermId). AllNamesBelow (names_with depth o) (At (term.Name n))) e w)
+
+pub quotes-put_at : (g : Graph) (depth k n : ℕ) (put : Option TermId) (r : TermId) → IsSound g → put ≡ Some r → n ≡ depth → IsValidIfAny g put depth → Quotes (put_head g depth put) depth k (At (term.Name n)) (value_of g r)
+quotes-put_at g depth k n put r s e same v =
+    subst (λ (o : Option TermId). Quotes (put_head g depth o) depth k (At (term.Name n)) (value_of g r)) (sym e)
+    (subst (λ (i : ℕ). Quotes (put_head g depth (Some r)) depth k (At (term.Name i)) (value_of g r)) (sym same)
+    (quotes-put g depth k r s (subst (λ (o : Option TermId). IsValidIfAny g o depth) e v)))
+
+-- a head that no assignment changes, and that is no level
+pub quotes-rigid : (g : Graph) (depth : ℕ) (put : Option TermId) (k : ℕ) (h n : RigidHead) (x : Value) → h ≡ n → IsClosedHead (rigid_head n) → is_name depth (rigid_head n) ≡ false → IsHeadOf (rigid_head n) x → Quotes (put_head g depth put) depth k (At (rigid_head h)) x
+quotes-rigid g depth put k h n x e w other m = subst (λ (i : RigidHead). Quotes (put_head g depth put) depth k (At (rigid_head i)) x) (sym e) (quotes-head g depth put k (rigid_head n) x w other m)

@@ -1,5 +1,5 @@
 -- Steps of the walk that makes nodes for terms.
-use Rattle.std.proofs.Common.{◌≡◌, ℕ, zero, suc, ◌<◌, ◌≤◌, ◌+◌, ◌*◌, ◌++◌, List, [], ◌∷◌, length, map, reverse, Bool, true, false, Option, Some, None, refl, sym, ap, ap₂, ◌∙◌, arith, subst, length-append, append_assoc, append-nil}
+use Rattle.std.proofs.Common.{◌≡◌, ℕ, zero, suc, ◌<◌, ◌≤◌, ◌+◌, ◌*◌, ◌++◌, List, [], ◌∷◌, length, map, reverse, take, drop, get_or, Bool, true, false, Option, Some, None, refl, sym, ap, ap₂, ◌∙◌, arith, subst, length-append, append_assoc, append-nil}
 use Rattle.std.proofs.lemmas.List.{reverse-append, reverse-reverse, length-map, map-append}
 use Rattle.level_terms.specs.declared.node.TermId.{TermId}
 use Rattle.level_terms.specs.Graph.{Graph, value_in}
@@ -12,8 +12,10 @@ use Rattle.ref_terms.specs.lemmas.NameLemmas.{or_left, or_right}
 use Rattle.beta_fragment.specs.declared.quoting.Task.{Task}
 use Rattle.beta_fragment.specs.declared.quoting.Task.TheVariants.{Visit, Lam, App}
 use Rattle.beta_fragment.specs.Moves.{Value, value_of, IsLamOf, IsAppOf}
-use Rattle.beta_fragment.specs.Cells.{term_at}
-use Rattle.beta_fragment.specs.Quoted.{AllIndicesBelow, AllNamesBelow, AllHeads, IsOpenHead, names_with}
+use Rattle.beta_fragment.specs.declared.cells.Cell.{Cell}
+use Rattle.beta_fragment.specs.declared.cells.Cell.TheVariants as cell
+use Rattle.beta_fragment.specs.Cells.{term_at, HasParts}
+use Rattle.beta_fragment.specs.Quoted.{AllIndicesBelow, AllNamesBelow, AllHeads, IsOpenHead, names_with, put_head}
 use Rattle.beta_fragment.specs.Quoting.{Quotes, Item, item, Setting, set_for, heads_of, AllQuote, MayStand, CanVisit, app_to, items_of, Comes, IsQuoting, term_size, task_size, tasks_size, visits_of, IsReady, AllThere, Unwinds}
 use Rattle.beta_fragment.proofs.ReadLemmas.{valid-below}
 use Rattle.beta_fragment.proofs.MakeLemmas.{values-kept}
@@ -63,7 +65,7 @@ AllStand s k (x ∷ xs) = MayStand s k x × AllStand s k xs
 
 stand-spine : (s : Setting) (k : ℕ) (xs : List Term) (f : Term) → MayStand s k (app_to f xs) → MayStand s k f × AllStand s k xs
 stand-spine s k [] f w = (w, tt)
-stand-spine s k (x ∷ xs) f w = let r = stand-spine s k xs (term.App f x) w in (stand-front s k f x r.0, stand-last s k f x r.0, r.1)
+stand-spine s k (x ∷ xs) f w = let r = stand-spine s k xs (term.App f x) w in (stand-front s k f x r.0, (stand-last s k f x r.0, r.1))
 
 -- a visit that is done at once
 pub visit-done : (s : Setting) (u : Item) (h h' : Graph) (work : List Task) (done done' : List TermId) (t k : ℕ) (r : TermId) → IsSound h → Grows h h' [] [] → Quotes (heads_of s) s.depth k (term_at s.terms t) (value_of h' r) → done' ≡ done ++ r ∷ [] →
@@ -89,10 +91,7 @@ visit-lam s u h work new done t b k i there here inner e q =
       stack = q.stack;
       comes = subst (λ (ks : List Task). Comes s ks q.stack u) (sym tasks) (
           record { there = there; stands = stands },
-          q.stack,
-          term_at s.terms b,
-          refl,
-          subst (λ (x : Term). Comes s (reverse work) (q.stack ++ item k x ∷ []) u) here c.1,
+          (q.stack, term_at s.terms b, refl, subst (λ (x : Term). Comes s (reverse work) (q.stack ++ item k x ∷ []) u) here c.1),
       );
       known = q.known;
     }
@@ -336,3 +335,36 @@ some-item s u (x ∷ st) c w = w
 
 pub some-done : (s : Setting) (u : Item) (h : Graph) (work : List Task) (done : List TermId) → work ≡ [] → done ≡ [] → IsQuoting s u h work done → ⊥
 some-done s u h work done n e q = some-item s u q.stack (subst (λ (ks : List Task). Comes s (reverse ks) q.stack u) n q.comes) (subst (λ (ds : List TermId). AllQuote s q.stack (map (value_of h) ds)) e q.known)
+
+-- a list taken apart at an item
+pub split-at : (xs : List TermId) (i : ℕ) (d : TermId) → i < length xs → xs ≡ take i xs ++ get_or xs i d ∷ drop (i + 1) xs
+split-at [] i d h = absurd (omega (arith, h))
+split-at (x ∷ xs) zero d h = refl
+split-at (x ∷ xs) (suc i) d h =
+    ap (λ (ys : List TermId). x ∷ ys) (split-at xs i d (omega (arith, h)))
+    ∙ ap (λ k. x ∷ (take i xs ++ get_or xs i d ∷ drop k (x ∷ xs))) (let q : suc (i + 1) ≡ suc i + 1 = omega arith in q)
+
+pub take-count : (xs : List TermId) (i : ℕ) → i < length xs → length (take i xs) ≡ i
+take-count [] i h = absurd (omega (arith, h))
+take-count (x ∷ xs) zero h = refl
+take-count (x ∷ xs) (suc i) h = ap suc (take-count xs i (omega (arith, h)))
+
+-- a visit of a head
+pub visit-head : (g h h' : Graph) (ts : List Term) (depth : ℕ) (put : Option TermId) (u : Item) (work : List Task) (done done' : List TermId) (t k : ℕ) (r : TermId) (x : Term) → IsSound h → Grows h h' [] [] → term_at ts t ≡ x → put_head g depth put ≡ put_head h depth put → Quotes (put_head h depth put) depth k x (value_of h' r) → done' ≡ done ++ r ∷ [] →
+    IsQuoting (set_for g ts depth put) u h (work ++ Visit t k ∷ []) done → IsQuoting (set_for g ts depth put) u h' work done'
+visit-head g h h' ts depth put u work done done' t k r x sound gr e same m e' q =
+    visit-done (set_for g ts depth put) u h h' work done done' t k r sound gr
+    (subst (λ (f : Head → Term). Quotes f depth k (term_at ts t) (value_of h' r)) (sym same) (subst (λ (y : Term). Quotes (put_head h depth put) depth k y (value_of h' r)) (sym e) m)) e' q
+
+-- the parts of a cell are there
+pub body-there : (ts : List Term) (t b : ℕ) (c : Cell) → t < length ts → HasParts t c → c ≡ cell.Lam b → b < length ts
+body-there ts t b c h w e = let k : b < t = subst (HasParts t) e w in omega (arith, h, k)
+
+pub front-there : (ts : List Term) (t f a : ℕ) (c : Cell) → t < length ts → HasParts t c → c ≡ cell.App f a → f < length ts
+front-there ts t f a c h w e = let k : f < t = (subst (HasParts t) e w).0 in omega (arith, h, k)
+
+pub last-there : (ts : List Term) (t f a : ℕ) (c : Cell) → t < length ts → HasParts t c → c ≡ cell.App f a → a < length ts
+last-there ts t f a c h w e = let k : a < t = (subst (HasParts t) e w).1 in omega (arith, h, k)
+
+pub front-older : (t f a : ℕ) (c : Cell) → HasParts t c → c ≡ cell.App f a → f < t
+front-older t f a c w e = (subst (HasParts t) e w).0
