@@ -14,7 +14,8 @@ use Rattle.beta_fragment.specs.declared.quoting.Task.TheVariants.{Visit, Lam, Ap
 use Rattle.beta_fragment.specs.Moves.{Value, value_of, IsLamOf, IsAppOf}
 use Rattle.beta_fragment.specs.declared.cells.Cell.{Cell}
 use Rattle.beta_fragment.specs.declared.cells.Cell.TheVariants as cell
-use Rattle.beta_fragment.specs.Cells.{term_at, HasParts}
+use Rattle.beta_fragment.specs.Cells.{term_at, cell_term, HasParts}
+use Rattle.beta_fragment.specs.HeadForm.{IsAbstraction}
 use Rattle.beta_fragment.specs.Quoted.{AllIndicesBelow, AllNamesBelow, AllHeads, IsOpenHead, names_with, put_head}
 use Rattle.beta_fragment.specs.Quoting.{Quotes, Item, item, Setting, set_for, heads_of, AllQuote, MayStand, CanVisit, app_to, items_of, Comes, IsQuoting, term_size, task_size, tasks_size, visits_of, IsReady, AllThere, Unwinds}
 use Rattle.beta_fragment.proofs.ReadLemmas.{valid-below}
@@ -368,3 +369,10 @@ last-there ts t f a c h w e = let k : a < t = (subst (HasParts t) e w).1 in omeg
 
 pub front-older : (t f a : ℕ) (c : Cell) → HasParts t c → c ≡ cell.App f a → f < t
 front-older t f a c w e = (subst (HasParts t) e w).0
+
+pub no_abstraction : (ts : List Term) (c : Cell) → ((b : ℕ) → c ≡ cell.Lam b → ⊥) → IsAbstraction (cell_term ts c) → ⊥
+no_abstraction ts (cell.Lam b) w a = w b refl
+no_abstraction ts (cell.Rigid h) w a = a
+no_abstraction ts (cell.Bound i) w a = a
+no_abstraction ts (cell.Var v) w a = a
+no_abstraction ts (cell.App f b) w a = a
