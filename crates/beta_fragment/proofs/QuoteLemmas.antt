@@ -1,5 +1,5 @@
 -- What nodes read as under abstractions.
-use Rattle.std.proofs.Common.{◌≡◌, ℕ, zero, suc, ◌<◌, ◌≤◌, ◌+◌, ◌-◌, ◌++◌, List, [], ◌∷◌, length, map, cond, nat_eq, nat_lt, Bool, true, false, Option, Some, None, refl, sym, ap, ap₂, ◌∙◌, arith, subst, ne_eqb, length-append}
+use Rattle.std.proofs.Common.{◌≡◌, ℕ, zero, suc, ◌<◌, ◌+◌, ◌-◌, List, [], ◌∷◌, length, map, cond, nat_eq, nat_lt, Bool, true, false, Option, Some, None, refl, sym, ap, ap₂, ◌∙◌, arith, subst, ne_eqb}
 use Rattle.std.specs.List.{list_all}
 use Rattle.level_terms.specs.declared.node.Node.{Node}
 use Rattle.level_terms.specs.declared.node.Node.TheVariants as node
@@ -17,10 +17,10 @@ use Rattle.level_terms.proofs.NodeLemmas.{nodes_read}
 use Rattle.level_terms.proofs.ValidLemmas.{nodes_valid, valid_deeper, growth_keeps_valid}
 use Rattle.ref_terms.specs.terms.Term as term
 use Rattle.ref_terms.specs.terms.Term.{Term, Head, At}
-use Rattle.ref_terms.specs.terms.Index.{ren, shift, next}
+use Rattle.ref_terms.specs.terms.Index.{shift, next}
 use Rattle.ref_terms.specs.terms.Eta.{lam}
-use Rattle.ref_terms.specs.terms.Apply.{apply, below, fill}
-use Rattle.ref_terms.specs.terms.Occurs.{is_name, has_name}
+use Rattle.ref_terms.specs.terms.Apply.{below, fill}
+use Rattle.ref_terms.specs.terms.Occurs.{is_name}
 use Rattle.ref_terms.specs.unification.Spine.{apply_all}
 use Rattle.ref_terms.specs.lemmas.TermLemmas.{ren_sub}
 use Rattle.ref_terms.specs.lemmas.NameLemmas.{nat_eq_self}

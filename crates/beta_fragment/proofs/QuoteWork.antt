@@ -1,13 +1,12 @@
 -- Steps of the walk that makes nodes for terms.
-use Rattle.std.proofs.Common.{◌≡◌, ℕ, zero, suc, ◌<◌, ◌≤◌, ◌+◌, ◌*◌, ◌++◌, List, [], ◌∷◌, length, map, reverse, take, drop, get_or, Bool, true, false, Option, Some, None, refl, sym, ap, ap₂, ◌∙◌, arith, subst, length-append, append_assoc, append-nil}
+use Rattle.std.proofs.Common.{◌≡◌, ℕ, zero, suc, ◌<◌, ◌≤◌, ◌+◌, ◌*◌, ◌++◌, List, [], ◌∷◌, length, map, reverse, take, drop, get_or, Option, refl, sym, ap, ap₂, ◌∙◌, arith, subst, length-append, append_assoc, append-nil}
 use Rattle.std.proofs.lemmas.List.{reverse-append, reverse-reverse, length-map, map-append}
 use Rattle.level_terms.specs.declared.node.TermId.{TermId}
-use Rattle.level_terms.specs.Graph.{Graph, value_in}
+use Rattle.level_terms.specs.Graph.{Graph}
 use Rattle.level_terms.specs.Sound.{IsSound, AllOlder}
 use Rattle.level_terms.specs.Growth.{Grows}
 use Rattle.ref_terms.specs.terms.Term as term
 use Rattle.ref_terms.specs.terms.Term.{Term, Head, At}
-use Rattle.ref_terms.specs.terms.Occurs.{has_name}
 use Rattle.ref_terms.specs.lemmas.NameLemmas.{or_left, or_right}
 use Rattle.beta_fragment.specs.declared.quoting.Task.{Task}
 use Rattle.beta_fragment.specs.declared.quoting.Task.TheVariants.{Visit, Lam, App}
@@ -16,7 +15,7 @@ use Rattle.beta_fragment.specs.declared.cells.Cell.{Cell}
 use Rattle.beta_fragment.specs.declared.cells.Cell.TheVariants as cell
 use Rattle.beta_fragment.specs.Cells.{term_at, cell_term, HasParts}
 use Rattle.beta_fragment.specs.HeadForm.{IsAbstraction}
-use Rattle.beta_fragment.specs.Quoted.{AllIndicesBelow, AllNamesBelow, AllHeads, IsOpenHead, names_with, put_head}
+use Rattle.beta_fragment.specs.Quoted.{AllHeads, IsOpenHead, put_head}
 use Rattle.beta_fragment.specs.Quoting.{Quotes, Item, item, Setting, set_for, heads_of, AllQuote, MayStand, CanVisit, app_to, items_of, Comes, IsQuoting, term_size, task_size, tasks_size, visits_of, IsReady, AllThere, Unwinds}
 use Rattle.beta_fragment.proofs.ReadLemmas.{valid-below}
 use Rattle.beta_fragment.proofs.MakeLemmas.{values-kept}
@@ -91,8 +90,8 @@ visit-lam s u h work new done t b k i there here inner e q =
     record {
       stack = q.stack;
       comes = subst (λ (ks : List Task). Comes s ks q.stack u) (sym tasks) (
-          record { there = there; stands = stands },
-          (q.stack, term_at s.terms b, refl, subst (λ (x : Term). Comes s (reverse work) (q.stack ++ item k x ∷ []) u) here c.1),
+        record { there = there; stands = stands },
+        (q.stack, term_at s.terms b, refl, subst (λ (x : Term). Comes s (reverse work) (q.stack ++ item k x ∷ []) u) here c.1),
       );
       known = q.known;
     }
@@ -177,7 +176,7 @@ visits-come s u k rest [] st there stands c = subst (λ (is : List Item). Comes 
 visits-come s u k rest (a ∷ args) st there stands c = (
   record { there = there.0; stands = stands.0 },
   visits-come s u k rest args (st ++ item k (term_at s.terms a) ∷ []) there.1 stands.1
-  (subst (λ (is : List Item). Comes s rest is u) (sym (append_assoc st (item k (term_at s.terms a) ∷ []) (items_of k (map (term_at s.terms) args)))) c),
+      (subst (λ (is : List Item). Comes s rest is u) (sym (append_assoc st (item k (term_at s.terms a) ∷ []) (items_of k (map (term_at s.terms) args)))) c),
 )
 
 unwound-tasks : (work mid new : List Task) (visits : List Task) (head k m : ℕ) → mid ≡ work ++ App m ∷ reverse visits → new ≡ mid ++ Visit head k ∷ [] → reverse new ≡ Visit head k ∷ (visits ++ App m ∷ reverse work)
@@ -197,21 +196,21 @@ visit-app s u h work mid new done t head k m long w e q =
     let count : length q.stack ≡ m = quote-length s q.stack (map (value_of h) done) q.known ∙ length-map done (value_of h) ∙ long in
     let many : 0 < length (map (term_at s.terms) w.args) = (let l = length-map w.args (term_at s.terms) in let some = w.some in omega (arith, l, some)) in
     let last : Comes s (reverse work) (q.stack ++ item k (app_to (term_at s.terms head) (map (term_at s.terms) w.args)) ∷ []) u =
-        subst (λ (x : Term). Comes s (reverse work) (q.stack ++ item k x ∷ []) u) w.spine c.1 in
+    subst (λ (x : Term). Comes s (reverse work) (q.stack ++ item k x ∷ []) u) w.spine c.1 in
     record {
       stack = q.stack;
       comes = subst (λ (ks : List Task). Comes s ks q.stack u) (sym (unwound-tasks work mid new (visits_of k w.args) head k m w.pushed e)) (
-          record { there = w.there; stands = stand.0 },
-          visits-come s u k (App m ∷ reverse work) w.args (q.stack ++ item k (term_at s.terms head) ∷ []) w.all stand.1 (
-              q.stack,
-              k,
-              term_at s.terms head,
-              map (term_at s.terms) w.args,
-              append_assoc q.stack (item k (term_at s.terms head) ∷ []) (items_of k (map (term_at s.terms) w.args)),
-              count,
-              many,
-              last,
-          ),
+        record { there = w.there; stands = stand.0 },
+        visits-come s u k (App m ∷ reverse work) w.args (q.stack ++ item k (term_at s.terms head) ∷ []) w.all stand.1 (
+          q.stack,
+          k,
+          term_at s.terms head,
+          map (term_at s.terms) w.args,
+          append_assoc q.stack (item k (term_at s.terms head) ∷ []) (items_of k (map (term_at s.terms) w.args)),
+          count,
+          many,
+          last,
+        ),
       );
       known = q.known;
     }
@@ -233,7 +232,7 @@ lam-done s u h h' work front done done' body r k l sound gr level made e e' q =
       stack = c.0 ++ item k (term.Lam c.1) ∷ [];
       comes = c.3;
       known = subst (AllQuote s (c.0 ++ item k (term.Lam c.1) ∷ [])) (sym values') (quote-append s c.0 (item k (term.Lam c.1) ∷ []) (map (value_of h) front) (value_of h' r ∷ []) parts.0
-      (quotes-lam (heads_of s) s.depth k l c.1 (value_of h body) (value_of h' r) level parts.1.0 made, tt));
+          (quotes-lam (heads_of s) s.depth k l c.1 (value_of h body) (value_of h' r) level parts.1.0 made, tt));
     }
 
 -- an application is made
@@ -251,7 +250,7 @@ app-done s u h h' work front args done done' head r m sound gr count made e e' q
       stack = c.0 ++ item c.1 (app_to c.2 c.3) ∷ [];
       comes = c.7;
       known = subst (AllQuote s (c.0 ++ item c.1 (app_to c.2 c.3) ∷ [])) (sym values') (quote-append s c.0 (item c.1 (app_to c.2 c.3) ∷ []) (map (value_of h) front) (value_of h' r ∷ []) parts.0
-      (quotes-app s c.1 c.2 c.3 (value_of h head) (value_of h' r) (map (value_of h) args) parts.1.0 parts.1.1 made, tt));
+          (quotes-app s c.1 c.2 c.3 (value_of h head) (value_of h' r) (map (value_of h) args) parts.1.0 parts.1.1 made, tt));
     }
 
 -- the next task can be done

@@ -3,7 +3,7 @@
 //! The walk keeps a list of what is still to be done, and one of the nodes that are done, so that
 //! depth is bounded by memory alone.
 
-ghost use Rattle.std.specs.Prelude.{◌≡◌, ◌+◌, ◌<◌, ◌++◌, ℕ, List, [], ◌∷◌, length, map, suc, IfOk, OnOk, None};
+ghost use Rattle.std.specs.Prelude.{◌≡◌, ◌+◌, ◌<◌, ◌++◌, ℕ, List, [], ◌∷◌, length, suc, IfOk, OnOk, None};
 ghost use Rattle.level_terms.specs.Graph.{Graph, node_at};
 ghost use Rattle.level_terms.specs.Growth.{Grows};
 ghost use Rattle.level_terms.specs.Sound.{AllOlder};
@@ -114,12 +114,7 @@ fn rigid_node(
 }
 
 /// The node of a bound index: the level of its abstraction.
-fn index_node(
-    heap: &mut Heap,
-    depth: usize,
-    under: usize,
-    i: usize,
-) -> Result<TermId, AllocError>
+fn index_node(heap: &mut Heap, depth: usize, under: usize, i: usize) -> Result<TermId, AllocError>
     requires { i < under }
     ensures quotes { IfOk result (λ r. (h : Head → Term) → Quotes h depth under (term.At (term.Bound i)) (value_of heap.new r)) }
     ensures grows { Grows heap.old heap.new [] [] }

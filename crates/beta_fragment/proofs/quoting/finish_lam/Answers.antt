@@ -1,6 +1,5 @@
-use Rattle.std.proofs.Common.{◌≡◌, ◌<◌, ◌+◌, ap, ◌++◌, ◌∷◌, [], List, length, sym, ◌∙◌, subst}
+use Rattle.std.proofs.Common.{◌+◌, ap, [], length, sym, ◌∙◌, subst}
 use Rattle.level_terms.specs.Sound.{AllOlder}
-use Rattle.level_terms.specs.declared.node.TermId.{TermId}
 use Rattle.level_terms.proofs.GrowthLemmas.{grows-refl}
 use Rattle.beta_fragment.proofs.MakeLemmas.{older-last}
 use Rattle.beta_fragment.proofs.QuoteWork.{lam-done}

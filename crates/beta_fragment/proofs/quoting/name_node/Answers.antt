@@ -1,4 +1,4 @@
-use Rattle.std.proofs.Common.{◌≡◌, ◌<◌, []}
+use Rattle.std.proofs.Common.{◌<◌, []}
 use Rattle.level_terms.proofs.GrowthLemmas.{grows-refl}
 use Rattle.beta_fragment.specs.Moves.{value_of}
 use Rattle.std.proofs.lemmas.Result.{IfOk-weaker}
@@ -15,7 +15,7 @@ returns-then-n-depth-clause-grows c = grows-refl c.args.heap.now []
 pub returns-clause-quotes : goal.returns-clause-quotes
 returns-clause-quotes c =
     let low : c.args.n < c.args.depth = elim c.match-put.branch [
-      in-Some+else-n-depth w ↦ low-some c.args.depth c.args.n c.args.put w.in-Some.r w.in-Some.is w.if-n-depth.false c.requires.named
-    | in_default w ↦ low-none c.args.depth c.args.n c.args.put w.in_default.is c.requires.named
+      | in-Some+else-n-depth w ↦ low-some c.args.depth c.args.n c.args.put w.in-Some.r w.in-Some.is w.if-n-depth.false c.requires.named
+      | in_default w ↦ low-none c.args.depth c.args.n c.args.put w.in_default.is c.requires.named
     ] in
     IfOk-weaker c.made_level.result _ _ (λ r w under. quotes-level c.args.heap.now c.args.depth c.args.put under c.args.n (value_of c.made_level.new.heap r) low w) c.made_level.ensures.level

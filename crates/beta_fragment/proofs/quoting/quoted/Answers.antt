@@ -1,10 +1,8 @@
-use Rattle.std.proofs.Common.{◌≡◌, ℕ, ◌+◌, ◌<◌, [], true, Some, length, sym, ap, ◌∙◌, arith, subst}
+use Rattle.std.proofs.Common.{◌≡◌, ℕ, ◌+◌, [], true, sym, ap, ◌∙◌, arith, subst}
 use Rattle.std.proofs.lemmas.Result.{IfOk-weaker}
-use Rattle.level_terms.specs.Graph.{node_at}
 use Rattle.level_terms.specs.Valid.{valid}
 use Rattle.level_terms.proofs.GrowthLemmas.{grows-trans}
 use Rattle.ref_terms.specs.terms.Term as term
-use Rattle.ref_terms.specs.terms.Term.{Term}
 use Rattle.ref_terms.specs.terms.Apply.{fill}
 use Rattle.beta_fragment.specs.Body.{IsLam}
 use Rattle.beta_fragment.specs.HeadForm.{IsAbstraction}

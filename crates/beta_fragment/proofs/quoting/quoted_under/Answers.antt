@@ -1,5 +1,4 @@
-use Rattle.std.proofs.Common.{◌≡◌, ◌<◌, ◌++◌, ◌∷◌, [], List, length, sym, ◌∙◌, arith, subst}
-use Rattle.level_terms.specs.Sound.{AllOlder}
+use Rattle.std.proofs.Common.{[], List, arith, subst}
 use Rattle.level_terms.proofs.GrowthLemmas.{grows-refl, grows-trans}
 use Rattle.beta_fragment.specs.declared.quoting.Task.{Task}
 use Rattle.beta_fragment.specs.Cells.{terms_of, term_at}

@@ -1,4 +1,4 @@
-use Rattle.std.proofs.Common.{◌≡◌, refl, ap, sym, subst, ◌∙◌}
+use Rattle.std.proofs.Common.{refl, subst}
 use Rattle.std.proofs.Common.{rules}
 use Rattle.std.proofs.lemmas.Int.{to_z-of_z}
 use mir.Val.{SFits}
@@ -8,7 +8,7 @@ use Rattle.std.proofs.lemmas.Result.{IfOk-weaker}
 use Rattle.ref_terms.specs.terms.Term as term
 use Rattle.ref_terms.specs.terms.Term.{At}
 use Rattle.beta_fragment.specs.declared.answer.RigidHead.{RigidHead}
-use Rattle.beta_fragment.specs.declared.answer.RigidHead.TheVariants.{Con, Int, Str, Level}
+use Rattle.beta_fragment.specs.declared.answer.RigidHead.TheVariants.{Con, Int, Str}
 use Rattle.beta_fragment.specs.HeadForm.{rigid_head}
 use Rattle.beta_fragment.specs.Quoted.{AllNamesBelow, names_with}
 use Rattle.beta_fragment.specs.Moves.{value_of}

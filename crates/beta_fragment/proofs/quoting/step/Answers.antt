@@ -1,4 +1,4 @@
-use Rattle.std.proofs.Common.{◌≡◌, ◌++◌, ◌∷◌, [], List, subst}
+use Rattle.std.proofs.Common.{◌++◌, ◌∷◌, [], subst}
 use Rattle.std.proofs.lemmas.Result.{on_ok_weaker}
 use Rattle.beta_fragment.specs.declared.quoting.Task.{Task}
 use Rattle.beta_fragment.specs.Cells.{terms_of}

@@ -1,7 +1,7 @@
 use Rattle.std.proofs.Common.{◌≡◌, [], refl, ap, ◌∙◌, subst}
 use Rattle.level_terms.proofs.GrowthLemmas.{grows-refl}
 use Rattle.ref_terms.specs.terms.Term as term
-use Rattle.ref_terms.specs.terms.Term.{Term, At}
+use Rattle.ref_terms.specs.terms.Term.{At}
 use Rattle.beta_fragment.specs.HeadForm.{rigid_head}
 use Rattle.beta_fragment.specs.Moves.{value_of}
 use Rattle.beta_fragment.specs.Cells.{terms_of, term_at, cell_term}

@@ -1,4 +1,4 @@
-use Rattle.std.proofs.Common.{◌≡◌, List, sym, ap, ◌∙◌, subst}
+use Rattle.std.proofs.Common.{List, sym, ap, ◌∙◌, subst}
 use Rattle.ref_terms.specs.terms.Term.{Term}
 use Rattle.beta_fragment.specs.Cells.{terms_of, cell_term}
 use Rattle.beta_fragment.specs.Quoting.{Unwinds}
