@@ -28,3 +28,5 @@ pub mod KeptLemmas
 pub mod TakingLaws
 pub mod TakingSteps
 pub mod ApplyingLemmas
+pub mod QuoteLemmas
+pub mod QuoteWork

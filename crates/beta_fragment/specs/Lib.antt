@@ -13,3 +13,4 @@ pub mod Settled
 pub mod Compared
 pub mod Pairs
 pub mod Taking
+pub mod Quoting
