@@ -312,14 +312,7 @@ fn turn_lam(
             Ok(Turn::Ends(form))
         }
         Readiness::Unknown => {
-            let form = settled(
-                alloc,
-                heap,
-                head,
-                levels.as_slice(),
-                args.as_slice(),
-                depth,
-            )?;
+            let form = settled(alloc, heap, head, levels.as_slice(), args.as_slice(), depth)?;
             Ok(Turn::Ends(form))
         }
     }

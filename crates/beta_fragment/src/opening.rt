@@ -145,14 +145,6 @@ fn reduced(
     let inner = sum_of(depth, 1)?;
     let levels = own_levels(alloc, inner)?;
     let mut cells = Cells::new(alloc);
-    let number = evaluated(
-        alloc,
-        heap,
-        &mut cells,
-        t,
-        levels.as_slice(),
-        &[],
-        inner,
-    )?;
+    let number = evaluated(alloc, heap, &mut cells, t, levels.as_slice(), &[], inner)?;
     quoted(alloc, heap, &cells, number, depth, Some(put))
 }
