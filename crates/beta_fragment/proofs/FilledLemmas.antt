@@ -2,16 +2,15 @@
 use Rattle.std.proofs.Common.{◌≡◌, ℕ, zero, suc, ◌<◌, ◌≤◌, ◌-◌, ◌+◌, List, [], length, slice_index, cond, nat_eq, nat_lt, Bool, true, false, Some, refl, sym, ap, ap₂, ◌∙◌, arith, subst, eqb-true, eq-eqb, ne_eqb}
 use mathlib.Core.Path.{fun_ext}
 use Rattle.level_terms.specs.declared.node.TermId.{TermId}
-use Rattle.level_terms.specs.Graph.{Graph, node_at}
+use Rattle.level_terms.specs.Graph.{Graph}
 use Rattle.level_terms.specs.Laws.{IsPlace, ArePlaces}
 use Rattle.level_terms.specs.Sound.{IsSound}
 use Rattle.level_terms.specs.Valid.{IsValid}
 use Rattle.level_terms.specs.Reading.{read, enter}
-use Rattle.level_terms.specs.Growth.{Grows}
 use Rattle.level_terms.proofs.LocalLemmas.{readings_local, step_down}
 use Rattle.ref_terms.specs.terms.Term as term
 use Rattle.ref_terms.specs.terms.Term.{Term, Head, At}
-use Rattle.ref_terms.specs.terms.Index.{shift, next, under, sub, sub_head, first}
+use Rattle.ref_terms.specs.terms.Index.{shift, under, sub, sub_head, first}
 use Rattle.ref_terms.specs.terms.Eta.{lam}
 use Rattle.ref_terms.specs.terms.Apply.{apply, below, fill, opened, open_with}
 use Rattle.ref_terms.specs.terms.Occurs.{is_name, has_name}
@@ -19,7 +18,7 @@ use Rattle.ref_terms.specs.lemmas.ComposeLemmas.{fill-shift}
 use Rattle.ref_terms.specs.lemmas.NameLemmas.{fill-agree_names}
 use Rattle.beta_fragment.specs.Names.{names, renamed}
 use Rattle.beta_fragment.specs.Body.{at_name, opened_reads}
-use Rattle.beta_fragment.specs.Moves.{Value, value_of, Puts, around, put_name, Lacks}
+use Rattle.beta_fragment.specs.Moves.{value_of, Puts, around, put_name, Lacks}
 use Rattle.beta_fragment.specs.Quoted.{AllHeads, IsOpenHead, put_head}
 use Rattle.beta_fragment.specs.Settled.{IsQuotable}
 use Rattle.beta_fragment.proofs.ReadLemmas.{read-follows}

@@ -1,5 +1,5 @@
 -- Terms that can be quoted: readings and their applications have no free index, and no name from a depth on.
-use Rattle.std.proofs.Common.{◌≡◌, ℕ, zero, suc, ◌<◌, ◌≤◌, List, [], ◌∷◌, length, slice_index, cond, nat_eq, nat_lt, Bool, true, false, None, refl, sym, ap, ap₂, ◌∙◌, arith, subst, ne_eqb}
+use Rattle.std.proofs.Common.{◌≡◌, ℕ, zero, suc, ◌<◌, ◌≤◌, List, [], ◌∷◌, length, slice_index, cond, nat_lt, Bool, true, false, refl, sym, ap, ap₂, ◌∙◌, arith, subst, ne_eqb}
 use mathlib.Core.Path.{fun_ext}
 use Rattle.level_terms.specs.declared.node.TermId.{TermId}
 use Rattle.level_terms.specs.Graph.{Graph}
@@ -21,7 +21,7 @@ use Rattle.ref_terms.specs.lemmas.NameLemmas.{nameless-apply}
 use Rattle.beta_fragment.specs.Names.{names, renamed, AllBelow}
 use Rattle.beta_fragment.specs.HeadForm.{AllValidAt, all_read}
 use Rattle.beta_fragment.specs.Moves.{Lacks}
-use Rattle.beta_fragment.specs.Quoted.{AllIndicesBelow, AllNamesBelow, AllHeads, IsOpenHead}
+use Rattle.beta_fragment.specs.Quoted.{AllIndicesBelow, AllHeads, IsOpenHead}
 use Rattle.beta_fragment.specs.Settled.{IsQuotable}
 use Rattle.beta_fragment.proofs.ReadLemmas.{read-built, read-follows}
 use Rattle.beta_fragment.proofs.MoveLemmas.{below_true}

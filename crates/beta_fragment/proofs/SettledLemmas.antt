@@ -1,7 +1,6 @@
 -- Terms that are taken apart at their front.
-use Rattle.std.proofs.Common.{◌≡◌, ℕ, zero, suc, ◌<◌, ◌≤◌, ◌++◌, List, [], ◌∷◌, length, reverse, false, None, refl, sym, ap, ap₂, ◌∙◌, arith, subst, length-append}
+use Rattle.std.proofs.Common.{◌≡◌, ℕ, ◌<◌, ◌++◌, List, [], ◌∷◌, length, reverse, None, refl, sym, ap, ap₂, ◌∙◌, arith, subst, length-append}
 use Rattle.level_terms.specs.declared.node.TermId.{TermId}
-use Rattle.level_terms.specs.declared.node.VarId.{VarId}
 use Rattle.level_terms.specs.Graph.{Graph, node_at, value_in}
 use Rattle.level_terms.specs.Sound.{IsSound}
 use Rattle.level_terms.specs.Valid.{IsValid}
@@ -10,18 +9,18 @@ use Rattle.level_terms.specs.Growth.{Grows}
 use Rattle.ref_terms.specs.terms.Term as term
 use Rattle.ref_terms.specs.terms.Term.{Term, Head, At}
 use Rattle.ref_terms.specs.terms.Apply.{apply, fill}
-use Rattle.ref_terms.specs.terms.Built.{IsBuilt, IsStuck}
+use Rattle.ref_terms.specs.terms.Built.{IsStuck}
 use Rattle.ref_terms.specs.terms.Occurs.{has_name}
 use Rattle.ref_terms.specs.terms.Ready.{ready}
 use Rattle.ref_terms.specs.unification.Spine.{apply_all}
 use Rattle.ref_terms.specs.lemmas.OccursLemmas.{fill_at}
 use Rattle.ref_terms.specs.lemmas.NameLemmas.{or_left, or_right}
 use Rattle.beta_fragment.specs.declared.answer.RigidHead.{RigidHead}
-use Rattle.beta_fragment.specs.declared.answer.Whnf.TheVariants.{Lam, Rigid, Flex, Redex}
+use Rattle.beta_fragment.specs.declared.answer.Whnf.TheVariants.{Lam}
 use Rattle.beta_fragment.specs.Names.{names}
 use Rattle.beta_fragment.specs.Body.{IsLam}
-use Rattle.beta_fragment.specs.HeadForm.{AllValidAt, all_read, rigid_head, IsAbstraction, IsHeadForm, ReadsAsLam, FirstUnready}
-use Rattle.beta_fragment.specs.Quoted.{AllIndicesBelow, AllNamesBelow, AllHeads, IsOpenHead, put_head}
+use Rattle.beta_fragment.specs.HeadForm.{AllValidAt, all_read, rigid_head, IsAbstraction, ReadsAsLam, FirstUnready}
+use Rattle.beta_fragment.specs.Quoted.{AllIndicesBelow, AllHeads, IsOpenHead, put_head}
 use Rattle.beta_fragment.specs.Settled.{IsQuotable, IsHeld, IsUnwound}
 use Rattle.beta_fragment.proofs.MoveLemmas.{assigned-before}
 use Rattle.beta_fragment.proofs.HeadLemmas.{newest-arg, valid-grown_all, read-grown_all}

@@ -1,4 +1,4 @@
-use Rattle.std.proofs.Common.{◌≡◌, ℕ, ◌≤◌, List, length, ap, sym, subst, arith}
+use Rattle.std.proofs.Common.{ℕ, List, length, ap, sym, subst, arith}
 use Rattle.level_terms.specs.Valid.{IsValid}
 use Rattle.beta_fragment.specs.Names.{AllBelow}
 use Rattle.beta_fragment.proofs.ReadLemmas.{valid-below}

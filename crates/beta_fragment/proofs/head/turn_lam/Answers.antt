@@ -1,4 +1,4 @@
-use Rattle.std.proofs.Common.{◌≡◌, ℕ, ◌+◌, ◌∙◌, ◌++◌, ◌∷◌, List, take, min, reverse, [], ap, sym, subst, arith, length, vec_len, None}
+use Rattle.std.proofs.Common.{◌≡◌, ℕ, ◌+◌, ◌∙◌, ◌++◌, ◌∷◌, List, min, reverse, [], ap, sym, subst, arith, length, vec_len}
 use Rattle.std.specs.Prelude.{MatchOption}
 use Rattle.level_terms.specs.declared.node.TermId.{TermId}
 use Rattle.level_terms.specs.Valid.{IsValid}

@@ -1,4 +1,4 @@
-use Rattle.std.proofs.Common.{◌≡◌, ◌<◌, ◌≤◌, ◌+◌, suc, [], ap, sym, ◌∙◌, subst, arith}
+use Rattle.std.proofs.Common.{[], subst}
 use Rattle.std.proofs.lemmas.Result.{IfOk-weaker}
 use Rattle.level_terms.specs.Valid.{IsValid}
 use Rattle.level_terms.proofs.GrowthLemmas.{grows-refl, grows-trans}

@@ -1,6 +1,5 @@
-use Rattle.std.proofs.Common.{◌≡◌, refl, ◌∙◌, ◌+◌, suc, sym, subst, ap, arith, []}
+use Rattle.std.proofs.Common.{refl, []}
 use Rattle.std.proofs.lemmas.Result.{IfOk-weaker}
-use Rattle.level_terms.specs.Valid.{IsValid}
 use Rattle.level_terms.proofs.GrowthLemmas.{grows-refl}
 use Rattle.beta_fragment.specs.Cells.{terms_of, term_at}
 use Rattle.beta_fragment.proofs.FilledLemmas.{reduced-quotable, reduced-reads}

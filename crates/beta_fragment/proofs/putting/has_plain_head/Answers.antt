@@ -1,4 +1,4 @@
-use Rattle.std.proofs.Common.{◌≡◌, ◌∙◌, ap, Some}
+use Rattle.std.proofs.Common.{◌∙◌, ap, Some}
 use Rattle.beta_fragment.proofs.MakeLemmas.{parts-there}
 use Rattle.beta_fragment.proofs.putting.has_plain_head.Goals as goal
 

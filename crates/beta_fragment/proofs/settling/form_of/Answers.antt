@@ -1,4 +1,4 @@
-use Rattle.std.proofs.Common.{◌≡◌, ◌<◌, ◌∙◌, [], length, reverse, ap, sym, subst, arith}
+use Rattle.std.proofs.Common.{◌∙◌, [], reverse, ap, subst, arith}
 use Rattle.level_terms.proofs.GrowthLemmas.{grows-refl, grows-trans}
 use Rattle.beta_fragment.specs.Cells.{terms_of, term_at}
 use Rattle.beta_fragment.specs.Settled.{IsQuotable}

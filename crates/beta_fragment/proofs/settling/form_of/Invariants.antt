@@ -1,4 +1,4 @@
-use Rattle.std.proofs.Common.{◌≡◌, ◌<◌, length, []}
+use Rattle.std.proofs.Common.{◌<◌, length, []}
 use Rattle.level_terms.specs.Growth.{Grows}
 use Rattle.beta_fragment.specs.Cells.{terms_of, term_at}
 use Rattle.beta_fragment.specs.Settled.{IsUnwound}

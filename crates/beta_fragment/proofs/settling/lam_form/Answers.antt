@@ -1,6 +1,5 @@
-use Rattle.std.proofs.Common.{◌≡◌, ◌<◌, List, [], length, reverse, arith}
+use Rattle.std.proofs.Common.{◌≡◌, ◌<◌, [], length, reverse, arith}
 use Rattle.std.proofs.lemmas.List.{length-reverse}
-use Rattle.level_terms.specs.declared.node.TermId.{TermId}
 use Rattle.beta_fragment.specs.Cells.{terms_of, term_at}
 use Rattle.beta_fragment.proofs.SplitLemmas.{empty-list}
 use Rattle.beta_fragment.proofs.SettledLemmas.{lam-form, redex-form}

@@ -1,4 +1,4 @@
-use Rattle.std.proofs.Common.{◌≡◌, ◌∙◌, sym, subst, reverse, []}
+use Rattle.std.proofs.Common.{◌∙◌, sym, subst, reverse, []}
 use Rattle.std.proofs.lemmas.Result.{IfOk-weaker}
 use Rattle.level_terms.proofs.GrowthLemmas.{grows-refl}
 use Rattle.beta_fragment.specs.HeadForm.{IsHeadForm}
