@@ -258,6 +258,14 @@ fn same_wholes(alloc: Global, heap: &Heap, pair: Pair) -> Result<bool, AllocErro
     let levels = Levels::own(alloc, pair.depth);
     let mut cells = Cells::new(alloc);
     let left = evaluated(alloc, heap, &mut cells, pair.left, &levels, &[], pair.depth)?;
-    let right = evaluated(alloc, heap, &mut cells, pair.right, &levels, &[], pair.depth)?;
+    let right = evaluated(
+        alloc,
+        heap,
+        &mut cells,
+        pair.right,
+        &levels,
+        &[],
+        pair.depth,
+    )?;
     are_equal(alloc, &cells, left, right)
 }

@@ -301,14 +301,7 @@ fn turn_lam(
             Ok(Turn::Ends(form))
         }
         Readiness::Unknown => {
-            let form = settled(
-                alloc,
-                heap,
-                head,
-                levels,
-                args.as_slice(),
-                depth,
-            )?;
+            let form = settled(alloc, heap, head, levels, args.as_slice(), depth)?;
             Ok(Turn::Ends(form))
         }
     }
@@ -359,15 +352,7 @@ fn one_turn(
         Node::Int(n) => {
             let n = *n;
             let name = int_head(n);
-            let form = rigid(
-                alloc,
-                heap,
-                head,
-                name,
-                levels,
-                depth,
-                args.as_slice(),
-            )?;
+            let form = rigid(alloc, heap, head, name, levels, depth, args.as_slice())?;
             Ok(Turn::Ends(form))
         }
         Node::Str(s) => {
@@ -384,15 +369,7 @@ fn one_turn(
         }
         Node::Level(l) => {
             let name = RigidHead::Level(levels.name(*l));
-            let form = rigid(
-                alloc,
-                heap,
-                head,
-                name,
-                levels,
-                depth,
-                args.as_slice(),
-            )?;
+            let form = rigid(alloc, heap, head, name, levels, depth, args.as_slice())?;
             Ok(Turn::Ends(form))
         }
         Node::Lam { depth: made, body } => {
@@ -406,30 +383,12 @@ fn one_turn(
         } => {
             let inner = *inner;
             let count = list.len();
-            push_args(
-                alloc,
-                heap,
-                levels,
-                *fixed,
-                depth,
-                head,
-                count,
-                args,
-            )?;
+            push_args(alloc, heap, levels, *fixed, depth, head, count, args)?;
             Ok(Turn::Goes(inner))
         }
         Node::Var(v) => {
             let v = *v;
-            turn_var(
-                alloc,
-                heap,
-                head,
-                v,
-                depth,
-                levels,
-                *fixed,
-                args.as_slice(),
-            )
+            turn_var(alloc, heap, head, v, depth, levels, *fixed, args.as_slice())
         }
     }
 }

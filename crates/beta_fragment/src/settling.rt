@@ -15,8 +15,8 @@ use crate::answer::Whnf;
 use crate::cells::{Cell, Cells};
 use crate::evaluating::evaluated;
 use crate::head::in_order;
-use crate::quoting::quoted;
 use crate::levels::Levels;
+use crate::quoting::quoted;
 use level_terms::{Heap, TermId};
 use std::alloc::{AllocError, Global};
 
