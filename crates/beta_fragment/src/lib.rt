@@ -27,3 +27,6 @@ pub use equality::same_term;
 pub use head::whnf;
 pub use opening::contract;
 pub use renaming::lift;
+
+#[cfg(test)]
+mod tests;
