@@ -19,3 +19,6 @@ pub mod PutWork
 pub mod FilledLemmas
 pub mod LevelLemmas
 pub mod CellLemmas
+pub mod OpenHeadLemmas
+pub mod EvaluationLemmas
+pub mod ArgumentLemmas

@@ -8,3 +8,4 @@ pub mod Spine
 pub mod Turn
 pub mod Cells
 pub mod Quoted
+pub mod Evaluation
