@@ -22,16 +22,19 @@ valid-split : (g : Graph) (d : ℕ) (ts : List TermId) (t : TermId) → AllValid
 valid-split g d [] t v = (tt, v.0)
 valid-split g d (u ∷ us) t v = let rest = valid-split g d us t v.1 in ((v.0, rest.0), rest.1)
 
-pub valid-turned : (g : Graph) (d : ℕ) (ts : List TermId) (i : ℕ) (x : TermId) → i < length ts → AllValidAt g (reverse ts) d → IsValid g (get_or ts i x).index d
-valid-turned g d [] i x h v = absurd (omega arith)
-valid-turned g d (t ∷ ts) i x h v = go i h
-  where
-    parts : AllValidAt g (reverse ts) d × IsValid g t.index d
-    parts = valid-split g d (reverse ts) t (subst (λ us. AllValidAt g us d) (reverse-append (t ∷ []) ts) v)
+all-turned : (g : Graph) (d : ℕ) (ts : List TermId) → AllValidAt g (reverse ts) d → AllValidAt g ts d
+all-turned g d [] v = tt
+all-turned g d (t ∷ ts) v =
+    let parts = valid-split g d (reverse ts) t (subst (λ us. AllValidAt g us d) (reverse-append (t ∷ []) ts) v) in
+    (parts.1, all-turned g d ts parts.0)
 
-    go : (j : ℕ) → j < length (t ∷ ts) → IsValid g (get_or (t ∷ ts) j x).index d
-    go zero k = parts.1
-    go (suc j) k = valid-turned g d ts j x (omega (arith, k)) parts.0
+valid-at : (g : Graph) (d : ℕ) (ts : List TermId) (i : ℕ) (x : TermId) → i < length ts → AllValidAt g ts d → IsValid g (get_or ts i x).index d
+valid-at g d [] i x h v = absurd (omega arith)
+valid-at g d (t ∷ ts) zero x h v = v.0
+valid-at g d (t ∷ ts) (suc i) x h v = valid-at g d ts i x (omega (arith, h)) v.1
+
+pub valid-turned : (g : Graph) (d : ℕ) (ts : List TermId) (i : ℕ) (x : TermId) → i < length ts → AllValidAt g (reverse ts) d → IsValid g (get_or ts i x).index d
+valid-turned g d ts i x h v = valid-at g d ts i x h (all-turned g d ts v)
 
 -- one more argument
 apply-next : (f : Term) (xs : List Term) (x : Term) → apply_all f (xs ++ x ∷ []) ≡ apply (apply_all f xs) x

@@ -10,7 +10,7 @@ use Rattle.beta_fragment.proofs.evaluating.evaluated.Given as goal
 abbrev pub invariant-loop-i : goal.invariant-loop-i
 invariant-loop-i l = record {
   within : l.i ≤ length l.args;
-  kept : IsKept (terms_of l.cells) l.r (apply_all (read l.heap l.head.index (renamed l.levels)) (all_read l.heap (reverse (drop l.i l.args))));
+  kept : IsKept (terms_of l.cells) l.r (apply_all (read l.heap l.fn.head.index (renamed l.levels)) (all_read l.heap (reverse (drop l.i l.args))));
   variables : AllHeads (IsOpenHead l.heap) (term_at (terms_of l.cells) l.r);
   gains : Gains (terms_of l.fn.cells) (terms_of l.cells);
 }

@@ -17,6 +17,6 @@ loop-i-preserved c = record {
   pushed =
       let lt : c.loop-i.i - 1 < length c.args.args.now = omega (arith, c.loop-i.invariant.within, c.loop-i-test.true) in
       let up : c.loop-i.i ≡ suc (c.loop-i.i - 1) = omega (arith, c.loop-i-test.true) in
-      pushed-arg c.args.work.now.items c.loop-i.work.items c.push.new.self.items c.push-2.new.self.items c.args.args.now (c.loop-i.i - 1) (record { index = 0 }) lt
+      pushed-arg c.args.work.now.items c.loop-i.work.items c.push.new.self.items c.push-in-loop-i.new.self.items c.args.args.now (c.loop-i.i - 1) (record { index = 0 }) lt
       (c.loop-i.invariant.pushed ∙ ap (λ n. c.args.work.now.items ++ reverse (arg_tasks (drop n c.args.args.now))) up) c.in_ok-push.ensures.items c.in_ok-push-2.ensures.items;
 }

@@ -8,6 +8,6 @@ use Rattle.beta_fragment.proofs.evaluating.var_term.Given as goal
 
 abbrev pub invariant-loop-level : goal.invariant-loop-level
 invariant-loop-level l = record {
-  kept : IsKept (terms_of l.cells) l.r (apply_all (At (Var l.v.index)) (levels l.level (entries_env l.entries l.under)));
+  kept : IsKept (terms_of l.cells) l.r (apply_all (At (Var l.fn.v.index)) (levels l.level (entries_env l.entries l.under)));
   gains : Gains (terms_of l.fn.cells) (terms_of l.cells);
 }
