@@ -253,7 +253,7 @@ pub first-comes : (g : Graph) (node : TermId) (ns : List ℕ) (ts : List Term) (
     IsComing g (record { work = work; entries = es; under = 0; terms = done_terms ts ds }) (read g node.index (renamed ns))
 first-comes g node ns ts work es ds e f h v =
     let start : Comes g (Visit node ∷ []) (map Named ns) 0 [] (read g node.index (renamed ns)) =
-        (record { depth = length ns; valid = v; within = (let q = length-map ns Named in omega (arith, q)); placed = named-placed ns }, ap (read g node.index) (fun_ext (named-env ns))) in
+    (record { depth = length ns; valid = v; within = (let q = length-map ns Named in omega (arith, q)); placed = named-placed ns }, ap (read g node.index) (fun_ext (named-env ns))) in
     subst (λ ws. IsComing g (record { work = ws; entries = es; under = 0; terms = done_terms ts ds }) (read g node.index (renamed ns))) (sym e)
     (subst (λ (fs : List Entry). Comes g (Visit node ∷ []) fs 0 (done_terms ts ds) (read g node.index (renamed ns))) (sym f)
     (subst (λ is. Comes g (Visit node ∷ []) (map Named ns) 0 (done_terms ts is) (read g node.index (renamed ns))) (sym h) start))
@@ -266,9 +266,8 @@ module _ (g : Graph) (sound : IsSound g) where
       let can = h.0 in
       let inside = body-valid g sound node.index made body can.depth e can.valid in
       let reads : read g node.index (entries_env es u) ≡ lam (read g body.index (entries_env es' (u + 1))) =
-          nodes_read g node.index (lam_node made body) (entries_env es u) sound (entries-places es u) e
-          ∙ ap lam (readings_local g body.index (suc made) (enter made (entries_env es u)) (entries_env es' (u + 1)) inside (λ i l. sym (entered-env es es' made u before w can.placed i))) in
-      (
+      nodes_read g node.index (lam_node made body) (entries_env es u) sound (entries-places es u) e
+      ∙ ap lam (readings_local g body.index (suc made) (enter made (entries_env es u)) (entries_env es' (u + 1)) inside (λ i l. sym (entered-env es es' made u before w can.placed i))) in (
         record {
           depth = suc made;
           valid = inside;
@@ -279,8 +278,8 @@ module _ (g : Graph) (sound : IsSound g) where
           w.within,
           omega arith,
           subst (λ (fs : List Entry). Comes g k fs (u + 1 - 1) (lam (read g body.index (entries_env es' (u + 1))) ∷ xs) t) (sym w.back)
-          (subst (λ v. Comes g k es v (lam (read g body.index (entries_env es' (u + 1))) ∷ xs) t) (let q : u ≡ u + 1 - 1 = omega arith in q)
-          (subst (λ (x : Term). Comes g k es u (x ∷ xs) t) reads h.1)),
+              (subst (λ v. Comes g k es v (lam (read g body.index (entries_env es' (u + 1))) ∷ xs) t) (let q : u ≡ u + 1 - 1 = omega arith in q)
+              (subst (λ (x : Term). Comes g k es u (x ∷ xs) t) reads h.1)),
         ),
       )
 
@@ -293,8 +292,7 @@ module _ (g : Graph) (sound : IsSound g) where
   value-comes node value v es u k xs t e f h =
       let can = h.0 in
       let low = var-low g node.index v can.depth sound e can.valid in
-      let within = can.within in
-      (
+      let within = can.within in (
         record {
           depth = slice_index g.depths v.index;
           valid = value-valid g.nodes g.depths g.assigned sound.valid v.index value.index f;
@@ -317,11 +315,10 @@ module _ (g : Graph) (sound : IsSound g) where
       Comes g (Visit node ∷ k) es u xs t → Comes g ((Visit head ∷ arg_tasks args) ++ k) es u xs t
   app-comes node head args es u k xs t e h =
       let can = h.0 in
-      let parts = app-valid g node.index can.depth head args sound e can.valid in
-      (
+      let parts = app-valid g node.index can.depth head args sound e can.valid in (
         record { depth = can.depth; valid = parts.0; within = can.within; placed = can.placed },
         args-come es u can.depth k xs t can.within can.placed args (read g head.index (entries_env es u)) parts.1
-        (subst (λ (x : Term). Comes g k es u (x ∷ xs) t) (nodes_read g node.index (app_node head args) (entries_env es u) sound (entries-places es u) e) h.1),
+            (subst (λ (x : Term). Comes g k es u (x ∷ xs) t) (nodes_read g node.index (app_node head args) (entries_env es u) sound (entries-places es u) e) h.1),
       )
 
 -- sizes

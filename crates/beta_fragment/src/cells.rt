@@ -32,9 +32,7 @@ pub(crate) struct Cells {
 
 impl Model for Cells {
     ghost use Rattle.std.specs.Prelude.{List};
-
     ghost use Rattle.beta_fragment.specs.declared.cells.Cell.{Cell as CellOf};
-
     ghost use Rattle.beta_fragment.specs.Cells.{cells_view, AreCells};
 
     ghost Value = { List CellOf };

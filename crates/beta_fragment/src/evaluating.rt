@@ -227,11 +227,7 @@ fn leave(entries: &mut Vec<Entry>, made: usize, before: Option<Entry>)
 }
 
 /// The level of an abstraction stands for its index. What it stood for before is answered.
-fn enter(
-    entries: &mut Vec<Entry>,
-    made: usize,
-    under: usize,
-) -> Result<Option<Entry>, AllocError>
+fn enter(entries: &mut Vec<Entry>, made: usize, under: usize) -> Result<Option<Entry>, AllocError>
     requires { made ≤ length entries.old.items }
     ensures { IfOk result (λ before. IsEntered entries.old.items entries.new.items made under before) }
 {
@@ -269,9 +265,7 @@ fn visit(
         Node::Level(level) => {
             visit_level(heap, cells, node, *level, entries.as_slice(), *under, done)
         }
-        Node::Lam { depth, body } => {
-            visit_lam(heap, node, *depth, *body, work, entries, under)
-        }
+        Node::Lam { depth, body } => { visit_lam(heap, node, *depth, *body, work, entries, under) }
         Node::App { head, args } => visit_app(
             heap,
             node,

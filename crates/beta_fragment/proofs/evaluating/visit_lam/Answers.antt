@@ -15,9 +15,9 @@ enter-requires c =
 pub returns : goal.returns
 returns c = λ terms.
     let pushed : c.push-2.new.self.items ≡ c.args.work.now.items ++ (Lam c.args.made c.in_ok-before.before ∷ Visit c.args.body ∷ []) =
-        c.in_ok-push-2.ensures.items
-        ∙ ap (λ (ws : List Task). ws ++ Visit c.args.body ∷ []) c.in_ok-push.ensures.items
-        ∙ append_assoc c.args.work.now.items (Lam c.args.made c.in_ok-before.before ∷ []) (Visit c.args.body ∷ []) in
+    c.in_ok-push-2.ensures.items
+    ∙ ap (λ (ws : List Task). ws ++ Visit c.args.body ∷ []) c.in_ok-push.ensures.items
+    ∙ append_assoc c.args.work.now.items (Lam c.args.made c.in_ok-before.before ∷ []) (Visit c.args.body ∷ []) in
     subst (λ (ws : List Task). Steps c.args.heap.now (record { work = c.args.work.now.items ++ Visit c.args.node ∷ []; entries = c.args.entries.now.items; under = c.args.under.now; terms = terms }) (record { work = ws; entries = c.enter.new.entries.items; under = c.in_ok-inner.inner; terms = terms })) (sym pushed)
     (subst (λ n. Steps c.args.heap.now (record { work = c.args.work.now.items ++ Visit c.args.node ∷ []; entries = c.args.entries.now.items; under = c.args.under.now; terms = terms }) (record { work = c.args.work.now.items ++ (Lam c.args.made c.in_ok-before.before ∷ Visit c.args.body ∷ []); entries = c.enter.new.entries.items; under = n; terms = terms })) (sym c.in_ok-inner.ensures)
     (steps-more c.args.heap.now c.args.work.now.items (Lam c.args.made c.in_ok-before.before ∷ Visit c.args.body ∷ []) (Visit c.args.body ∷ Lam c.args.made c.in_ok-before.before ∷ []) c.args.node c.args.entries.now.items c.enter.new.entries.items c.args.under.now (c.args.under.now + 1) terms refl
