@@ -1,5 +1,5 @@
 -- Terms that are applied one after the other.
-use Rattle.std.proofs.Common.{◌≡◌, ℕ, zero, suc, ◌<◌, ◌≤◌, ◌-◌, ◌+◌, ◌++◌, List, [], ◌∷◌, length, map, reverse, drop, get_or, refl, sym, ap, ap₂, ◌∙◌, arith, subst, append_assoc}
+use Rattle.std.proofs.Common.{◌≡◌, ℕ, zero, suc, ◌<◌, ◌+◌, ◌++◌, List, [], ◌∷◌, length, reverse, drop, get_or, refl, sym, ap, ap₂, ◌∙◌, arith, subst, append_assoc}
 use Rattle.std.proofs.lemmas.List.{reverse-append, map-append}
 use Rattle.std.proofs.Math.Seq.{drop-cons, drop-length}
 use Rattle.level_terms.specs.declared.node.TermId.{TermId}
@@ -12,7 +12,6 @@ use Rattle.ref_terms.specs.terms.Apply.{apply}
 use Rattle.ref_terms.specs.unification.Spine.{apply_all}
 use Rattle.beta_fragment.specs.Names.{names, renamed}
 use Rattle.beta_fragment.specs.HeadForm.{all_read, AllValidAt}
-use Rattle.beta_fragment.specs.Cells.{term_at, IsKept}
 use Rattle.beta_fragment.specs.declared.evaluating.Task.{Task}
 use Rattle.beta_fragment.specs.declared.evaluating.Task.TheVariants.{Visit, App}
 use Rattle.beta_fragment.specs.Evaluation.{arg_tasks}

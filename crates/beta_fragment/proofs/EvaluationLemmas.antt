@@ -1,20 +1,19 @@
 -- Steps of the walk that evaluates a node.
-use Rattle.std.proofs.Common.{◌≡◌, ◌≢◌, ℕ, zero, suc, ◌<◌, ◌≤◌, ◌+◌, ◌-◌, ◌*◌, ◌++◌, List, [], ◌∷◌, length, map, reverse, take, cond, nat_eq, Bool, true, false, Option, Some, None, slice_index, get_or, refl, sym, ap, ap₂, ◌∙◌, arith, subst, length-append, append_assoc, eqb-true}
+use Rattle.std.proofs.Common.{◌≡◌, ℕ, zero, suc, ◌<◌, ◌≤◌, ◌+◌, ◌-◌, ◌*◌, ◌++◌, List, [], ◌∷◌, length, map, reverse, cond, nat_eq, Bool, true, false, Option, Some, slice_index, get_or, refl, sym, ap, ap₂, ◌∙◌, arith, subst, eqb-true}
 use Rattle.std.proofs.lemmas.Bool.{eqb-false}
-use Rattle.std.proofs.lemmas.List.{reverse-append, reverse-reverse, length-map, length-reverse}
+use Rattle.std.proofs.lemmas.List.{reverse-append, length-map, length-reverse}
 use Rattle.std.proofs.lemmas.List.{get_or-set_same, get_or-set_other}
 use Rattle.std.proofs.Math.ListN.{set, length-set}
 use mathlib.Core.Path.{fun_ext}
-use Rattle.level_terms.specs.declared.node.Node.{Node}
-use Rattle.level_terms.specs.declared.node.Node.TheVariants.{Con, Int, Str, Level as level_node, Lam as lam_node, App as app_node, Var as var_node}
+use Rattle.level_terms.specs.declared.node.Node.TheVariants.{Lam as lam_node, App as app_node, Var as var_node}
 use Rattle.level_terms.specs.declared.node.TermId.{TermId}
 use Rattle.level_terms.specs.declared.node.VarId.{VarId}
 use Rattle.level_terms.specs.Graph.{Graph, node_at, value_in}
 use Rattle.level_terms.specs.Laws.{IsPlace, ArePlaces}
 use Rattle.level_terms.specs.Sound.{IsSound}
 use Rattle.level_terms.specs.Valid.{IsValid}
-use Rattle.level_terms.specs.Reading.{read, enter, levels, variable_reads, node_reads}
-use Rattle.level_terms.specs.Reached.{Tree, Leaf, Hole, One, Two, plant, grown, layer_tree, node_tree, trees_of, tree, tree_size}
+use Rattle.level_terms.specs.Reading.{read, enter}
+use Rattle.level_terms.specs.Reached.{Tree, Leaf, plant, grown, layer_tree, node_tree, trees_of, tree, tree_size}
 use Rattle.level_terms.proofs.FoldLemmas.{over-at, names_older}
 use Rattle.level_terms.proofs.LocalLemmas.{readings_local}
 use Rattle.level_terms.proofs.NodeLemmas.{nodes_read, value-valid}
@@ -36,13 +35,12 @@ use Rattle.beta_fragment.specs.declared.evaluating.Entry.{Entry}
 use Rattle.beta_fragment.specs.declared.evaluating.Entry.TheVariants.{Named, Placed}
 use Rattle.beta_fragment.specs.declared.evaluating.Task.{Task}
 use Rattle.beta_fragment.specs.declared.evaluating.Task.TheVariants.{Visit, Lam, App}
-use Rattle.beta_fragment.specs.Evaluation.{entry_term, entry_at, entries_env, IsPlaced, AllPlaced, entries_before, IsEntered, CanVisit, Comes, task_size, work_size, State, IsComing, Steps, done_terms, AreDone, IsReady, arg_tasks}
+use Rattle.beta_fragment.specs.Evaluation.{entry_term, entry_at, entries_env, IsPlaced, AllPlaced, entries_before, IsEntered, CanVisit, Comes, work_size, IsComing, Steps, done_terms, AreDone, IsReady, arg_tasks}
 use Rattle.beta_fragment.proofs.CellLemmas.{gains-longer, gains-at}
 use Rattle.beta_fragment.proofs.EnterLemmas.{body-valid}
 use Rattle.beta_fragment.proofs.FirmLemmas.{reads-value}
-use Rattle.beta_fragment.proofs.HeadLemmas.{lam-within}
 use Rattle.beta_fragment.proofs.MoveLemmas.{app-valid}
-use Rattle.beta_fragment.proofs.StayLemmas.{var-low, level-low}
+use Rattle.beta_fragment.proofs.StayLemmas.{var-low}
 use Rattle.beta_fragment.proofs.WorkLemmas.{size-some, lam-size}
 
 -- lists

@@ -1,5 +1,5 @@
 -- What a list of tasks comes to that evaluates a node.
-use Rattle.std.specs.Prelude.{◌≡◌, ◌≢◌, ℕ, ◌+◌, ◌-◌, ◌*◌, ◌<◌, ◌≤◌, List, [], ◌∷◌, ◌++◌, length, map, reverse, take, Option, Some, None}
+use Rattle.std.specs.Prelude.{◌≡◌, ◌≢◌, ℕ, ◌+◌, ◌-◌, ◌*◌, ◌<◌, ◌≤◌, List, [], ◌∷◌, length, map, reverse, take, Option, Some, None}
 use Rattle.std.specs.List.{slice_index_or, slice_set}
 use Rattle.level_terms.specs.declared.node.TermId.{TermId}
 use Rattle.level_terms.specs.Graph.{Graph}
@@ -10,7 +10,7 @@ use Rattle.ref_terms.specs.terms.Term as term
 use Rattle.ref_terms.specs.terms.Term.{Term, At}
 use Rattle.ref_terms.specs.terms.Apply.{apply}
 use Rattle.ref_terms.specs.terms.Eta.{lam}
-use Rattle.beta_fragment.specs.Cells.{term_at, IsKept}
+use Rattle.beta_fragment.specs.Cells.{term_at}
 use Rattle.beta_fragment.specs.Quoted.{AllHeads, IsOpenHead}
 use Rattle.beta_fragment.specs.declared.evaluating.Entry.{Entry}
 use Rattle.beta_fragment.specs.declared.evaluating.Entry.TheVariants.{Named, Placed}

@@ -4,8 +4,8 @@
 //! depth is bounded by memory alone. An abstraction that is entered changes what one level stands
 //! for, and what it stood for before comes back with the abstraction's task.
 
-ghost use Rattle.std.specs.Prelude.{◌≡◌, ℕ, ◌+◌, ◌<◌, ◌≤◌, [], ◌∷◌, ◌++◌, List, length, map, IfOk, OnOk, reverse, slice_index, None, Some};
-ghost use Rattle.level_terms.specs.Graph.{node_at, value_in};
+ghost use Rattle.std.specs.Prelude.{◌≡◌, ℕ, ◌+◌, ◌<◌, ◌≤◌, [], ◌∷◌, ◌++◌, List, length, map, IfOk, OnOk, reverse, None, Some};
+ghost use Rattle.level_terms.specs.Graph.{node_at};
 ghost use Rattle.level_terms.specs.Laws.{ArePlaces};
 ghost use Rattle.level_terms.specs.Valid.{IsValid};
 ghost use Rattle.level_terms.specs.Reading.{read, levels as levels_below};
@@ -17,7 +17,7 @@ ghost use Rattle.beta_fragment.specs.Names.{renamed};
 ghost use Rattle.beta_fragment.specs.HeadForm.{all_read, AllValidAt, rigid_head};
 ghost use Rattle.beta_fragment.specs.Cells.{terms_of, term_at, cell_term, HasParts, Gains, IsKept};
 ghost use Rattle.beta_fragment.specs.Quoted.{AllHeads, IsOpenHead};
-ghost use Rattle.beta_fragment.specs.Evaluation.{entry_term, entries_env, entry_at, IsPlaced, AllPlaced, entries_before, IsEntered, CanVisit, State, Steps, done_terms, AreDone, IsReady, arg_tasks};
+ghost use Rattle.beta_fragment.specs.Evaluation.{entry_term, entries_env, IsPlaced, AllPlaced, entries_before, IsEntered, CanVisit, Steps, done_terms, AreDone, IsReady, arg_tasks};
 ghost use Rattle.beta_fragment.specs.declared.evaluating.Task.{Task as TaskOf};
 ghost use Rattle.beta_fragment.specs.declared.evaluating.Task.TheVariants.{Visit as visit_task, Lam as lam_task, App as app_task};
 ghost use Rattle.beta_fragment.specs.declared.evaluating.Entry.{Entry as EntryOf};

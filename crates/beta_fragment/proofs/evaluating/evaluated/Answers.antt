@@ -1,14 +1,13 @@
-use Rattle.std.proofs.Common.{◌≡◌, ◌<◌, ◌≤◌, ◌-◌, List, ℕ, suc, length, reverse, drop, get_or, ap, sym, ◌∙◌, subst, arith, refl}
-use Rattle.level_terms.specs.declared.node.TermId.{TermId}
+use Rattle.std.proofs.Common.{◌≡◌, ◌<◌, ◌-◌, List, ℕ, suc, length, reverse, drop, get_or, ap, sym, ◌∙◌, subst, arith, refl}
 use Rattle.level_terms.specs.Valid.{IsValid}
 use Rattle.level_terms.specs.Reading.{read}
 use Rattle.ref_terms.specs.terms.Term.{Term}
 use Rattle.ref_terms.specs.unification.Spine.{apply_all}
-use Rattle.beta_fragment.specs.Names.{names, renamed}
+use Rattle.beta_fragment.specs.Names.{renamed}
 use Rattle.beta_fragment.specs.HeadForm.{all_read}
 use Rattle.beta_fragment.specs.Cells.{terms_of, term_at, IsKept}
 use Rattle.beta_fragment.specs.Quoted.{AllHeads, IsOpenHead}
-use Rattle.beta_fragment.proofs.CellLemmas.{gains-refl, gains-trans, gains-longer, gains-at}
+use Rattle.beta_fragment.proofs.CellLemmas.{gains-trans, gains-longer, gains-at}
 use Rattle.beta_fragment.proofs.OpenHeadLemmas.{heads-apply}
 use Rattle.beta_fragment.proofs.ArgumentLemmas.{valid-turned, arg-applied, no-args, own-reads}
 use Rattle.beta_fragment.proofs.evaluating.evaluated.Goals as goal

@@ -1,4 +1,4 @@
-use Rattle.std.proofs.Common.{◌≡◌, ◌≤◌, length, reverse, drop}
+use Rattle.std.proofs.Common.{◌≤◌, length, reverse, drop}
 use Rattle.level_terms.specs.Reading.{read}
 use Rattle.ref_terms.specs.unification.Spine.{apply_all}
 use Rattle.beta_fragment.specs.Names.{renamed}

@@ -1,4 +1,4 @@
-use Rattle.std.proofs.Common.{◌≡◌, length, [], reverse}
+use Rattle.std.proofs.Common.{reverse}
 use Rattle.level_terms.specs.Reading.{read}
 use Rattle.beta_fragment.specs.Names.{renamed}
 use Rattle.beta_fragment.specs.Cells.{terms_of, Gains}

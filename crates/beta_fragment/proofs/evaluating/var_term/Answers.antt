@@ -1,4 +1,4 @@
-use Rattle.std.proofs.Common.{◌≡◌, ◌∙◌, ap, sym, subst, arith}
+use Rattle.std.proofs.Common.{◌≡◌, ◌∙◌, subst, arith}
 use Rattle.level_terms.specs.Reading.{levels}
 use Rattle.ref_terms.specs.terms.Term.{At, Var}
 use Rattle.ref_terms.specs.unification.Spine.{apply_all}

@@ -1,4 +1,3 @@
-use Rattle.std.proofs.Common.{◌≡◌}
 use Rattle.level_terms.specs.Reading.{levels}
 use Rattle.ref_terms.specs.terms.Term.{At, Var}
 use Rattle.ref_terms.specs.unification.Spine.{apply_all}

@@ -1,4 +1,4 @@
-use Rattle.std.proofs.Common.{◌≡◌, ◌++◌, ◌∷◌, [], List, ℕ, Some, ap, sym, subst, ◌∙◌, rules, SFits, w64}
+use Rattle.std.proofs.Common.{◌++◌, ◌∷◌, [], List, Some, ap, sym, subst, ◌∙◌, rules, SFits, w64}
 use Rattle.std.proofs.lemmas.Int.{to_z-of_z}
 use Rattle.ref_terms.specs.terms.Term as term
 use Rattle.ref_terms.specs.terms.Term.{At}

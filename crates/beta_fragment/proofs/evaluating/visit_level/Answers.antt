@@ -1,4 +1,4 @@
-use Rattle.std.proofs.Common.{◌<◌, ◌≤◌, length, arith, sym, ◌∙◌}
+use Rattle.std.proofs.Common.{arith, sym, ◌∙◌}
 use Rattle.level_terms.specs.declared.node.Node.TheVariants.{Level}
 use Rattle.level_terms.proofs.NodeLemmas.{nodes_read}
 use Rattle.beta_fragment.specs.Cells.{terms_of}

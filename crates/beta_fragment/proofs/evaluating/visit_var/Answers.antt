@@ -1,4 +1,4 @@
-use Rattle.std.proofs.Common.{◌≡◌, ◌≤◌, ◌++◌, ◌∷◌, [], List, length, slice_index, refl, sym, ap, ◌∙◌, subst, arith}
+use Rattle.std.proofs.Common.{◌++◌, ◌∷◌, [], List, refl, sym, ap, ◌∙◌, subst, arith}
 use Rattle.level_terms.specs.Reading.{levels, variable_reads}
 use Rattle.level_terms.specs.declared.node.Node.TheVariants.{Var}
 use Rattle.level_terms.proofs.NodeLemmas.{nodes_read}
