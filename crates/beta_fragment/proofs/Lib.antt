@@ -30,3 +30,6 @@ pub mod TakingSteps
 pub mod ApplyingLemmas
 pub mod QuoteLemmas
 pub mod QuoteWork
+pub mod OpenHeadLemmas
+pub mod EvaluationLemmas
+pub mod ArgumentLemmas

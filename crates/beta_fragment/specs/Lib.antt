@@ -14,3 +14,4 @@ pub mod Compared
 pub mod Pairs
 pub mod Taking
 pub mod Quoting
+pub mod Evaluation
