@@ -67,12 +67,12 @@ pub(crate) fn evaluated(
     ensures variables { IfOk result (λ r. AllHeads (IsOpenHead heap.now) (term_at (terms_of cells.new) r)) }
     ensures gains { Gains (terms_of cells.old) (terms_of cells.new) }
 {
-    let own = Levels::own(alloc, depth);
+    let inner = Levels::own(alloc, depth);
     let mut r = evaluated_node(alloc, heap, cells, head, levels)?;
     let mut i = args.len();
     while i > 0 {
         i -= 1;
-        let a = evaluated_node(alloc, heap, cells, args[i], &own)?;
+        let a = evaluated_node(alloc, heap, cells, args[i], &inner)?;
         r = applied_term(alloc, cells, r, a)?;
     }
     Ok(r)

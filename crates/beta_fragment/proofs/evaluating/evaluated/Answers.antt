@@ -25,7 +25,7 @@ loop-i-init c = record {
 pub evaluated_node-requires-in-loop-i : goal.evaluated_node-requires-in-loop-i
 evaluated_node-requires-in-loop-i c =
     let lt : c.loop-i.i - 1 < length c.args.args.now = omega (arith, c.loop-i.invariant.within, c.loop-i-test.true) in
-    subst (λ d. IsValid c.args.heap.now (get_or c.args.args.now (c.loop-i.i - 1) (record { index = 0 })).index d) (sym (ap length c.as_slice.ensures.value ∙ c.in_ok-own.ensures.count))
+    subst (λ d. IsValid c.args.heap.now (get_or c.args.args.now (c.loop-i.i - 1) (record { index = 0 })).index d) (sym c.own-inner.ensures.count)
     (valid-turned c.args.heap.now c.args.depth c.args.args.now (c.loop-i.i - 1) (record { index = 0 }) lt c.requires.args)
 
 pub returns-in_err-a-clause-gains : goal.returns-in_err-a-clause-gains
@@ -53,9 +53,8 @@ loop-i-preserved c =
             (term_at (terms_of c.evaluated_node-in-loop-i.new.cells) c.loop-i.r) (term_at (terms_of c.applied_term.new.cells) c.in_ok-r-2.r) (term_at (terms_of c.evaluated_node-in-loop-i.new.cells) c.in_ok-a.a) lt
             (stays ∙ c.loop-i.invariant.kept.term ∙ ap (λ n. apply_all (read c.args.heap.now c.args.head.index (renamed c.args.levels.now)) (all_read c.args.heap.now (reverse (drop n c.args.args.now)))) up)
             (c.in_ok-a.ensures.reads.term
-            ∙ ap (λ (ns : List ℕ). read c.args.heap.now (get_or c.args.args.now (c.loop-i.i - 1) (record { index = 0 })).index (renamed ns)) c.as_slice.ensures.value
-            ∙ own-reads c.args.heap.now (get_or c.args.args.now (c.loop-i.i - 1) (record { index = 0 })).index c.args.depth c.in_ok-own.own.items
-            (valid-turned c.args.heap.now c.args.depth c.args.args.now (c.loop-i.i - 1) (record { index = 0 }) lt c.requires.args) c.in_ok-own.ensures.own)
+            ∙ own-reads c.args.heap.now (get_or c.args.args.now (c.loop-i.i - 1) (record { index = 0 })).index c.args.depth c.own-inner.result
+            (valid-turned c.args.heap.now c.args.depth c.args.args.now (c.loop-i.i - 1) (record { index = 0 }) lt c.requires.args) c.own-inner.ensures.own)
             c.in_ok-r-2.ensures.applied.term;
       };
       variables =
