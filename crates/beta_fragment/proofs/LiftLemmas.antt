@@ -5,8 +5,8 @@ use Rattle.level_terms.specs.Valid.{IsValid}
 use Rattle.level_terms.specs.Reading.{read}
 use Rattle.level_terms.proofs.LocalLemmas.{readings_local}
 use Rattle.ref_terms.specs.terms.Term.{Term, At, Name}
-use Rattle.beta_fragment.specs.Names.{names, renamed}
-use Rattle.beta_fragment.specs.Moves.{Value, Moves, moved, moved_level}
+use Rattle.beta_fragment.specs.Names.{names, renamed, AllBelow}
+use Rattle.beta_fragment.specs.Moves.{Value, Moves, moved, moved_level, IsMove}
 use Rattle.beta_fragment.proofs.EnterLemmas.{names-places}
 use Rattle.beta_fragment.proofs.MoveLemmas.{below_true}
 
@@ -28,3 +28,17 @@ names-moved g ns n to t x few valid m = m.term names names-places ∙ readings_l
     same i h =
         let long = take-long ns n few in
         ap names (ap (λ b. cond b (slice_index (take n ns) i) (i - length (take n ns) + to)) (below_true i (length (take n ns)) (omega (arith, h, long))) ∙ take-index ns n i h)
+
+-- the names that stay, from the first one on, lie below whatever all names do
+stay-low : (ns : List ℕ) (fixed to : ℕ) → fixed ≤ length ns → ((i : ℕ) → i < fixed → slice_index ns i ≡ i) → AllBelow ns to → fixed ≤ to
+stay-low ns zero to few stay below = omega arith
+stay-low ns (suc n) to few stay below =
+    let same = stay n (omega arith) in
+    let low = below n (omega (arith, few)) in
+    omega (arith, same, low)
+
+pub lift-move : (ns : List ℕ) (n fixed to : ℕ) → n ≤ length ns → fixed ≤ length (take n ns) → ((i : ℕ) → i < fixed → slice_index (take n ns) i ≡ i) → AllBelow ns to → IsMove (take n ns) fixed to
+lift-move ns n fixed to all few stay below =
+    let long = take-long ns n all in
+    let front : AllBelow (take n ns) to = λ i k. let e = take-index ns n i (omega (arith, k, long)) in let b = below i (omega (arith, k, long, all)) in omega (arith, e, b) in
+    record { below = front; few = few; low = stay-low (take n ns) fixed to few stay front; stay = stay }
