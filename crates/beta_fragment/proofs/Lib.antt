@@ -21,3 +21,4 @@ pub mod LevelLemmas
 pub mod CellLemmas
 pub mod ComparedLemmas
 pub mod PairLemmas
+pub mod SpineLemmas
