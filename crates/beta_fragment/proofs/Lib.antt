@@ -33,3 +33,4 @@ pub mod QuoteWork
 pub mod OpenHeadLemmas
 pub mod EvaluationLemmas
 pub mod ArgumentLemmas
+pub mod SpineLemmas

@@ -1,6 +1,5 @@
 -- Pairs of nodes whose readings are compared.
-use Rattle.std.proofs.Common.{◌≡◌, ℕ, zero, suc, ◌<◌, ◌≤◌, ◌+◌, ◌++◌, ◌↔◌, Bool, true, false, IsTrue, List, [], ◌∷◌, length, map, take, get_or, slice_index, Result, IfOk, option_map, Option, Some, None, IfSome, cond, nat_lt, nat_eq, refl, sym, ap, ap₂, ◌∙◌, arith, subst, append-nil, append_assoc, eqb-true, ne_eqb}
-use Rattle.std.proofs.lemmas.List.{length-map}
+use Rattle.std.proofs.Common.{◌≡◌, ℕ, suc, ◌<◌, ◌≤◌, ◌+◌, ◌++◌, ◌↔◌, Bool, true, false, IsTrue, List, [], ◌∷◌, length, map, slice_index, Result, IfOk, option_map, Option, Some, None, IfSome, cond, nat_lt, nat_eq, refl, sym, ap, ap₂, ◌∙◌, arith, subst, append-nil, eqb-true, ne_eqb}
 use Rattle.level_terms.specs.declared.node.Node.TheVariants.{Lam, App, Var}
 use Rattle.level_terms.specs.declared.node.TermId.{TermId}
 use Rattle.level_terms.specs.declared.node.VarId.{VarId}
@@ -22,7 +21,7 @@ use Rattle.ref_terms.specs.unification.Spine.{apply_all}
 use Rattle.ref_terms.specs.lemmas.NameLemmas.{close-apply}
 use Rattle.beta_fragment.specs.Names.{names, renamed}
 use Rattle.beta_fragment.specs.HeadForm.{AllValidAt, all_read}
-use Rattle.beta_fragment.specs.Firm.{IsPlain, IsPlainNode}
+use Rattle.beta_fragment.specs.Firm.{IsPlain}
 use Rattle.beta_fragment.specs.Moves.{Lacks}
 use Rattle.beta_fragment.specs.Cells.{term_at, Gains, IsKept}
 use Rattle.beta_fragment.proofs.CellLemmas.{kept-gains}
@@ -34,10 +33,10 @@ use Rattle.beta_fragment.proofs.MoveLemmas.{app-valid, below_true}
 use Rattle.beta_fragment.proofs.NamelessLemmas.{nameless-read}
 use Rattle.beta_fragment.proofs.ReadLemmas.{read-built, valid-below}
 use Rattle.beta_fragment.proofs.StayLemmas.{lam-stays, var-low}
-use Rattle.beta_fragment.proofs.WorkLemmas.{size-some, total, app-size, lam-size}
+use Rattle.beta_fragment.proofs.WorkLemmas.{size-some, total, lam-size}
 
 -- one list of pairs after another
-valid-append : (g : Graph) (xs ys : List Pair) → AllValidPairs g xs → AllValidPairs g ys → AllValidPairs g (xs ++ ys)
+pub valid-append : (g : Graph) (xs ys : List Pair) → AllValidPairs g xs → AllValidPairs g ys → AllValidPairs g (xs ++ ys)
 valid-append g [] ys v w = w
 valid-append g (x ∷ xs) ys v w = (v.0, valid-append g xs ys v.1 w)
 
@@ -49,19 +48,19 @@ valid-back : (g : Graph) (xs ys : List Pair) → AllValidPairs g (xs ++ ys) → 
 valid-back g [] ys w = w
 valid-back g (x ∷ xs) ys w = valid-back g xs ys w.1
 
-same-append : (g : Graph) (xs ys : List Pair) → AllSame g xs → AllSame g ys → AllSame g (xs ++ ys)
+pub same-append : (g : Graph) (xs ys : List Pair) → AllSame g xs → AllSame g ys → AllSame g (xs ++ ys)
 same-append g [] ys v w = w
 same-append g (x ∷ xs) ys v w = (v.0, same-append g xs ys v.1 w)
 
-same-front : (g : Graph) (xs ys : List Pair) → AllSame g (xs ++ ys) → AllSame g xs
+pub same-front : (g : Graph) (xs ys : List Pair) → AllSame g (xs ++ ys) → AllSame g xs
 same-front g [] ys w = tt
 same-front g (x ∷ xs) ys w = (w.0, same-front g xs ys w.1)
 
-same-back : (g : Graph) (xs ys : List Pair) → AllSame g (xs ++ ys) → AllSame g ys
+pub same-back : (g : Graph) (xs ys : List Pair) → AllSame g (xs ++ ys) → AllSame g ys
 same-back g [] ys w = w
 same-back g (x ∷ xs) ys w = same-back g xs ys w.1
 
-size-append : (g : Graph) (xs ys : List Pair) → pairs_size g (xs ++ ys) ≡ pairs_size g xs + pairs_size g ys
+pub size-append : (g : Graph) (xs ys : List Pair) → pairs_size g (xs ++ ys) ≡ pairs_size g xs + pairs_size g ys
 size-append g [] ys = omega arith
 size-append g (x ∷ xs) ys = let h = size-append g xs ys in omega (arith, h)
 
@@ -149,7 +148,7 @@ bodies-stand g p d d' n b b' sound v e f q deep =
     }
 
 -- applications of terms that are no abstractions
-spine-parts : (xs ys : List Term) (t u : Term) → length xs ≡ length ys → IsPlain t → IsPlain u → apply_all t xs ≡ apply_all u ys → (t ≡ u) × (xs ≡ ys)
+pub spine-parts : (xs ys : List Term) (t u : Term) → length xs ≡ length ys → IsPlain t → IsPlain u → apply_all t xs ≡ apply_all u ys → (t ≡ u) × (xs ≡ ys)
 spine-parts [] [] t u l v w e = (e, refl)
 spine-parts [] (y ∷ ys) t u l v w e = absurd (omega (arith, l))
 spine-parts (x ∷ xs) [] t u l v w e = absurd (omega (arith, l))
@@ -160,13 +159,13 @@ spine-parts (x ∷ xs) (y ∷ ys) t u l v w e =
     let firsts : x ≡ y = cc in
     (heads, ap₂ (λ (z : Term) (zs : List Term). z ∷ zs) firsts rest.1)
 
-same-lists : (g : Graph) (d : ℕ) (ts us : List TermId) → length ts ≡ length us → AllSame g (pairs_of d ts us) → all_read g ts ≡ all_read g us
+pub same-lists : (g : Graph) (d : ℕ) (ts us : List TermId) → length ts ≡ length us → AllSame g (pairs_of d ts us) → all_read g ts ≡ all_read g us
 same-lists g d [] [] l w = refl
 same-lists g d [] (u ∷ us) l w = absurd (omega (arith, l))
 same-lists g d (t ∷ ts) [] l w = absurd (omega (arith, l))
 same-lists g d (t ∷ ts) (u ∷ us) l w = ap₂ (λ (z : Term) (zs : List Term). z ∷ zs) w.0 (same-lists g d ts us (omega (arith, l)) w.1)
 
-lists-same : (g : Graph) (d : ℕ) (ts us : List TermId) → all_read g ts ≡ all_read g us → AllSame g (pairs_of d ts us)
+pub lists-same : (g : Graph) (d : ℕ) (ts us : List TermId) → all_read g ts ≡ all_read g us → AllSame g (pairs_of d ts us)
 lists-same g d [] us e = tt
 lists-same g d (t ∷ ts) [] e = tt
 lists-same g d (t ∷ ts) (u ∷ us) e =
@@ -175,51 +174,15 @@ lists-same g d (t ∷ ts) (u ∷ us) e =
     let tails : all_read g ts ≡ all_read g us = cc in
     (heads, lists-same g d ts us tails)
 
-lists-valid : (g : Graph) (d : ℕ) (ts us : List TermId) → AllValidAt g ts d → AllValidAt g us d → AllValidPairs g (pairs_of d ts us)
+pub lists-valid : (g : Graph) (d : ℕ) (ts us : List TermId) → AllValidAt g ts d → AllValidAt g us d → AllValidPairs g (pairs_of d ts us)
 lists-valid g d [] us v w = tt
 lists-valid g d (t ∷ ts) [] v w = tt
 lists-valid g d (t ∷ ts) (u ∷ us) v w = ((v.0, w.0), lists-valid g d ts us v.1 w.1)
 
-lists-size : (g : Graph) (d : ℕ) (ts us : List TermId) → pairs_size g (pairs_of d ts us) ≤ total g ts + total g us
+pub lists-size : (g : Graph) (d : ℕ) (ts us : List TermId) → pairs_size g (pairs_of d ts us) ≤ total g ts + total g us
 lists-size g d [] us = omega arith
 lists-size g d (t ∷ ts) [] = omega arith
 lists-size g d (t ∷ ts) (u ∷ us) = let h = lists-size g d ts us in omega (arith, h)
-
-pub apps-divide : (g : Graph) (p : Pair) (k k' : TermId) (ts us : List TermId) (old more new : List Pair) → IsSound g → IsValidPair g p → node_at g.nodes p.left.index ≡ Some (App k ts) → node_at g.nodes p.right.index ≡ Some (App k' us) → length ts ≡ length us → IsPlainNode g k.index → IsPlainNode g k'.index →
-    more ≡ old ++ pairs_of p.depth ts us → new ≡ more ++ record { left = k; right = k'; depth = p.depth } ∷ [] → Divides g p old new
-apps-divide g p k k' ts us old more new sound v e f l plain plain' pushed last =
-    let left = app-valid g p.left.index p.depth k ts sound e v.0 in
-    let right = app-valid g p.right.index p.depth k' us sound f v.1 in
-    let reads : read g p.left.index names ≡ apply_all (read g k.index names) (all_read g ts) = nodes_read g p.left.index (App k ts) names sound names-places e in
-    let reads' : read g p.right.index names ≡ apply_all (read g k'.index names) (all_read g us) = nodes_read g p.right.index (App k' us) names sound names-places f in
-    let heads : Pair = record { left = k; right = k'; depth = p.depth } in
-    record {
-      parts = pairs_of p.depth ts us ++ record { left = k; right = k'; depth = p.depth } ∷ [];
-      pushed = last ∙ ap (λ zs. zs ++ record { left = k; right = k'; depth = p.depth } ∷ []) pushed ∙ append_assoc old (pairs_of p.depth ts us) (record { left = k; right = k'; depth = p.depth } ∷ []);
-      valid = valid-append g (pairs_of p.depth ts us) (record { left = k; right = k'; depth = p.depth } ∷ []) (lists-valid g p.depth ts us left.1 right.1) ((left.0, right.0), tt);
-      whole = λ w. reads
-          ∙ ap₂ apply_all (same-back g (pairs_of p.depth ts us) (record { left = k; right = k'; depth = p.depth } ∷ []) w).0 (same-lists g p.depth ts us l (same-front g (pairs_of p.depth ts us) (record { left = k; right = k'; depth = p.depth } ∷ []) w))
-          ∙ sym reads';
-      each = λ w.
-          let parts = spine-parts (all_read g ts) (all_read g us) (read g k.index names) (read g k'.index names) (length-map ts (λ t. read g t.index names) ∙ l ∙ sym (length-map us (λ t. read g t.index names))) (plain names names-places) (plain' names names-places) (sym reads ∙ w ∙ reads') in
-          same-append g (pairs_of p.depth ts us) (record { left = k; right = k'; depth = p.depth } ∷ []) (lists-same g p.depth ts us parts.1) (parts.0, tt);
-      less =
-          let size = size-append g (pairs_of p.depth ts us) (record { left = k; right = k'; depth = p.depth } ∷ []) in
-          let args = lists-size g p.depth ts us in
-          let first = app-size g p.left.index k ts sound e in
-          let second = app-size g p.right.index k' us sound f in
-          omega (arith, size, args, first, second);
-    }
-
--- nodes of two lists up to an index
-pub pairs-next : (d : ℕ) (ts us : List TermId) (i : ℕ) (z z' : TermId) → i < length ts → i < length us → pairs_of d (take (suc i) ts) (take (suc i) us) ≡ pairs_of d (take i ts) (take i us) ++ record { left = get_or ts i z; right = get_or us i z'; depth = d } ∷ []
-pairs-next d [] us i z z' h k = absurd (omega (arith, h))
-pairs-next d (t ∷ ts) [] i z z' h k = absurd (omega (arith, k))
-pairs-next d (t ∷ ts) (u ∷ us) zero z z' h k = refl
-pairs-next d (t ∷ ts) (u ∷ us) (suc i) z z' h k = ap (λ (ps : List Pair). record { left = t; right = u; depth = d } ∷ ps) (pairs-next d ts us i z z' (omega (arith, h)) (omega (arith, k)))
-
-pub pairs-after : (d : ℕ) (ts us : List TermId) (i n : ℕ) (z z' : TermId) → n ≡ suc i → i < length ts → i < length us → pairs_of d (take n ts) (take n us) ≡ pairs_of d (take i ts) (take i us) ++ record { left = get_or ts i z; right = get_or us i z'; depth = d } ∷ []
-pairs-after d ts us i n z z' q h k = ap (λ m. pairs_of d (take m ts) (take m us)) q ∙ pairs-next d ts us i z z' h k
 
 -- nodes that are there
 pub left-there : (g : Graph) (p : Pair) → IsValidPair g p → p.left.index < length g.nodes

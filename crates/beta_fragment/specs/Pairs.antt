@@ -1,5 +1,5 @@
 -- Pairs of nodes whose readings are compared.
-use Rattle.std.specs.Prelude.{◌≡◌, ℕ, ◌+◌, ◌<◌, Bool, true, false, List, [], ◌∷◌, ◌++◌}
+use Rattle.std.specs.Prelude.{◌≡◌, ℕ, ◌+◌, ◌<◌, Bool, true, false, List, [], ◌∷◌, ◌++◌, Option, Some, None}
 use Rattle.level_terms.specs.declared.node.TermId.{TermId}
 use Rattle.level_terms.specs.Graph.{Graph}
 use Rattle.level_terms.specs.Reached.{tree, tree_size}
@@ -65,6 +65,11 @@ TurnsOut g p old new false = IsSame g p → ⊥
 abbrev pub MayDivide : Graph → Pair → (old new : List Pair) → Bool → Type 0
 MayDivide g p old new true = Divides g p old new
 MayDivide g p old new false = new ≡ old
+
+-- so, or nothing is told and the list is as before
+abbrev pub MayTell : Graph → Pair → (old new : List Pair) → Option Bool → Type 0
+MayTell g p old new (Some e) = TurnsOut g p old new e
+MayTell g p old new None = new ≡ old
 
 -- a node in the place of another: it reads the same, and has less below it
 pub record IsValueOf (g : Graph) (t value : ℕ) : Type 0 where

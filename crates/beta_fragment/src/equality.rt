@@ -3,16 +3,18 @@
 //! The walk keeps a list of pairs of nodes. A look at two nodes leads to pairs of their parts; where
 //! it can't tell, both are evaluated, and the terms that they come to are compared.
 
-ghost use Rattle.std.specs.Prelude.{◌≡◌, ◌↔◌, ◌++◌, ◌<◌, [], length, IfOk, OnOk, IfSome, IsTrue, Some};
+ghost use Rattle.std.specs.Prelude.{◌≡◌, ◌↔◌, ◌++◌, ◌<◌, [], length, reverse, IfOk, OnOk, IfSome, IsTrue, Some};
 ghost use Rattle.level_terms.specs.declared.node.Node.TheVariants.{Var as var_node};
 ghost use Rattle.level_terms.specs.Graph.{node_at};
 ghost use Rattle.level_terms.specs.Valid.{IsValid};
 ghost use Rattle.level_terms.specs.Reading.{read};
 ghost use Rattle.level_terms.specs.Growth.{Grows};
 ghost use Rattle.ref_terms.specs.terms.Term as term;
+ghost use Rattle.ref_terms.specs.unification.Spine.{apply_all};
 ghost use Rattle.beta_fragment.specs.Names.{names};
-ghost use Rattle.beta_fragment.specs.HeadForm.{rigid_head};
-ghost use Rattle.beta_fragment.specs.Pairs.{IsValidPair, IsSame, pairs_of, StandsFor, TurnsOut, MayDivide, IsValueOf};
+ghost use Rattle.beta_fragment.specs.HeadForm.{rigid_head, all_read};
+ghost use Rattle.beta_fragment.specs.Spine.{args_in};
+ghost use Rattle.beta_fragment.specs.Pairs.{IsValidPair, IsSame, pairs_of, StandsFor, TurnsOut, MayDivide, MayTell, IsValueOf};
 
 use crate::answer::RigidHead;
 use crate::cells::Cells;
@@ -78,7 +80,7 @@ fn compared_nodes(
         work.push(next)?;
         return Ok(true);
     }
-    if let Some(equal) = same_leaves(heap, pair) {
+    if let Some(equal) = same_spines(heap, pair, work)? {
         return Ok(equal);
     }
     if push_parts(heap, pair, work)? {
@@ -174,14 +176,52 @@ fn bodies_of(heap: &Heap, pair: Pair) -> Option<Pair>
     None
 }
 
-/// Whether both nodes are equal, where each is a head alone that no assignment changes.
-fn same_leaves(heap: &Heap, pair: Pair) -> Option<bool>
+/// Compares two nodes but for their arguments, pairs of which it puts onto the work list, where no
+/// assignment changes either head.
+fn same_spines(heap: &Heap, pair: Pair, work: &mut Vec<Pair>) -> Result<Option<bool>, AllocError>
     requires { IsValidPair heap.now pair }
-    ensures { IfSome result (λ e. IsTrue e ↔ IsSame heap.now pair) }
+    ensures { IfOk result (λ told. MayTell heap.now pair work.old.items work.new.items told) }
 {
-    let left = head_at(heap, pair.left)?;
-    let right = head_at(heap, pair.right)?;
-    Some(same_head(left, right))
+    heap.is_sound();
+    let Some(left) = spine_head(heap, pair.left) else {
+        return Ok(None);
+    };
+    let Some(right) = spine_head(heap, pair.right) else {
+        return Ok(None);
+    };
+    if !same_head(left, right) {
+        return Ok(Some(false));
+    }
+    let first = args_of(heap, pair.left);
+    let second = args_of(heap, pair.right);
+    if first.len() != second.len() {
+        return Ok(Some(false));
+    }
+    push_pairs(first, second, pair.depth, work)?;
+    Ok(Some(true))
+}
+
+/// The head that stands before the arguments of a node, if any, where no assignment changes it.
+fn spine_head(heap: &Heap, t: TermId) -> Option<RigidHead>
+    requires { t.index < length heap.now.nodes }
+    ensures { IfSome result (λ h. read heap.now t.index names ≡ apply_all (term.At (rigid_head h)) (all_read heap.now (args_in (node_at heap.now.nodes t.index)))) }
+{
+    heap.is_sound();
+    match heap.view(t) {
+        Node::App { head, .. } => head_at(heap, *head),
+        _ => head_at(heap, t),
+    }
+}
+
+/// The arguments of a node, none where it is no application.
+fn args_of(heap: &Heap, t: TermId) -> &[TermId]
+    requires { t.index < length heap.now.nodes }
+    ensures { result.now ≡ args_in (node_at heap.now.nodes t.index) }
+{
+    match heap.view(t) {
+        Node::App { args, .. } => args.as_slice(),
+        _ => &[],
+    }
 }
 
 /// The head that a node is, where no assignment changes it.
@@ -230,7 +270,7 @@ fn push_parts(heap: &Heap, pair: Pair, work: &mut Vec<Pair>) -> Result<bool, All
     Ok(false)
 }
 
-/// Puts the nodes of two lists onto the work list, pair by pair.
+/// Puts the nodes of two lists onto the work list, pair by pair, the first pair last.
 fn push_pairs(
     left: &[TermId],
     right: &[TermId],
@@ -238,9 +278,11 @@ fn push_pairs(
     work: &mut Vec<Pair>,
 ) -> Result<(), AllocError>
     requires { length left.now ≡ length right.now }
-    ensures { OnOk result (work.new.items ≡ work.old.items ++ pairs_of depth left.now right.now) }
+    ensures { OnOk result (work.new.items ≡ work.old.items ++ reverse (pairs_of depth left.now right.now)) }
 {
-    for i in 0..left.len() {
+    let mut i = left.len();
+    while i > 0 {
+        i -= 1;
         work.push(Pair {
             left: left[i],
             right: right[i],

@@ -1,5 +1,5 @@
-use Rattle.std.proofs.Common.{◌≡◌, refl, subst, true, false}
-use Rattle.beta_fragment.specs.Pairs.{MayDivide}
+use Rattle.std.proofs.Common.{◌∙◌, subst, true, false, None}
+use Rattle.beta_fragment.specs.Pairs.{MayDivide, MayTell}
 use Rattle.beta_fragment.proofs.PairLemmas.{divides-none, divides-equal, decided}
 use Rattle.beta_fragment.proofs.equality.compared_nodes.Goals as goal
 
@@ -9,10 +9,8 @@ returns-then-pair c = divides-equal c.args.heap.now c.args.pair c.args.work.now.
 pub returns-then-is_one_variable : goal.returns-then-is_one_variable
 returns-then-is_one_variable c = divides-none c.args.heap.now c.args.pair c.args.work.now.items (c.is_one_variable.ensures c.if-is_one_variable.true)
 
-pub returns-in-Some-same_leaves : goal.returns-in-Some-same_leaves
-returns-in-Some-same_leaves c = decided c.args.heap.now c.args.pair c.args.work.now.items c.args.work.now.items c.in-Some-same_leaves.equal refl c.in-Some-same_leaves.ensures
-
 pub returns : goal.returns
 returns c =
-    let stays = subst (MayDivide c.args.heap.now c.args.pair c.args.work.now.items c.push_parts.new.work.items) c.if-branch.false c.in_ok-push_parts.ensures in
-    decided c.args.heap.now c.args.pair c.args.work.now.items c.push_parts.new.work.items c.in_ok-equal.equal stays c.in_ok-equal.ensures
+    let untold = subst (MayTell c.args.heap.now c.args.pair c.args.work.now.items c.same_spines.new.work.items) c.in_default-2.is c.in_ok-equal.ensures in
+    let stays = subst (MayDivide c.args.heap.now c.args.pair c.same_spines.new.work.items c.push_parts.new.work.items) c.if-branch.false c.in_ok-push_parts.ensures in
+    decided c.args.heap.now c.args.pair c.args.work.now.items c.push_parts.new.work.items c.in_ok-equal-2.equal (stays ∙ untold) c.in_ok-equal-2.ensures

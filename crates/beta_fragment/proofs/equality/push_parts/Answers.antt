@@ -1,7 +1,8 @@
-use Rattle.std.proofs.Common.{◌∙◌, ◌++◌, ap, ap₂, sym, Some, List}
+use Rattle.std.proofs.Common.{◌∙◌, ◌++◌, ap, ap₂, sym, reverse, Some, List}
 use Rattle.level_terms.specs.declared.node.TermId.{TermId}
 use Rattle.beta_fragment.specs.Pairs.{pairs_of}
-use Rattle.beta_fragment.proofs.PairLemmas.{left-there, right-there, head-there, apps-divide}
+use Rattle.beta_fragment.proofs.PairLemmas.{left-there, right-there, head-there}
+use Rattle.beta_fragment.proofs.SpineLemmas.{apps-divide}
 use Rattle.beta_fragment.proofs.equality.push_parts.Goals as goal
 
 pub view-requires : goal.view-requires
@@ -21,5 +22,5 @@ returns-then-is_plain-2 c =
     apps-divide c.args.heap.now c.args.pair c.in-App.left c.in-App-view.right c.in-App.first c.in-App-view.second c.args.work.now.items c.push_pairs.new.work.items c.push.new.self.items
     c.is_sound.ensures c.requires (c.view.ensures ∙ ap Some c.in-App.is) (c.view-in-App.ensures ∙ ap Some c.in-App-view.is)
     (sym c.len.ensures ∙ c.if-len.true ∙ c.len-in-App-view.ensures) (c.is_plain.ensures c.if-is_plain.true) (c.is_plain-then-is_plain.ensures c.if-is_plain-2.true)
-    (c.in_ok-push_pairs.ensures ∙ ap₂ (λ (xs ys : List TermId). c.args.work.now.items ++ pairs_of c.args.pair.depth xs ys) c.as_slice.ensures c.as_slice-then-is_plain-2.ensures)
+    (c.in_ok-push_pairs.ensures ∙ ap₂ (λ (xs ys : List TermId). c.args.work.now.items ++ reverse (pairs_of c.args.pair.depth xs ys)) c.as_slice.ensures c.as_slice-then-is_plain-2.ensures)
     c.in_ok-push.ensures.items
