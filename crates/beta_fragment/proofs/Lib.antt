@@ -34,3 +34,4 @@ pub mod OpenHeadLemmas
 pub mod EvaluationLemmas
 pub mod ArgumentLemmas
 pub mod SpineLemmas
+pub mod SampleLemmas

@@ -100,8 +100,14 @@ fn tells_equal_terms(rt: HostRuntime) -> Result<(), Fail> {
     let mut heap = Heap::new(rt.alloc());
     let s = made_sample(&mut heap)?;
     assert!(rt; same_term(rt.alloc(), &mut heap, s.redex, s.redex, 0)?);
+    Ok(())
+}
+
+#[test]
+fn tells_different_terms(rt: HostRuntime) -> Result<(), Fail> {
+    let mut heap = Heap::new(rt.alloc());
+    let s = made_sample(&mut heap)?;
     assert!(rt; !same_term(rt.alloc(), &mut heap, s.redex, s.constant, 0)?);
-    assert!(rt; !same_term(rt.alloc(), &mut heap, s.lam, s.constant, 0)?);
     Ok(())
 }
 
