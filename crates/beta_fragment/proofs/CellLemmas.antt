@@ -1,5 +1,5 @@
 -- Terms that are kept stay as others are added.
-use Rattle.std.proofs.Common.{◌≡◌, ℕ, zero, suc, ◌<◌, ◌+◌, ◌++◌, List, [], ◌∷◌, length, cond, nat_eq, Bool, true, false, refl, sym, ap, ◌∙◌, arith, subst, length-append, append_assoc, eqb-true}
+use Rattle.std.proofs.Common.{◌≡◌, ℕ, ◌<◌, ◌++◌, List, [], ◌∷◌, length, cond, nat_eq, Bool, true, false, refl, sym, ap, ◌∙◌, arith, length-append, append_assoc, eqb-true}
 use Rattle.ref_terms.specs.terms.Term.{Term}
 use Rattle.ref_terms.specs.lemmas.NameLemmas.{nat_eq_self}
 use Rattle.beta_fragment.specs.Cells.{term_at, Gains, IsKept}

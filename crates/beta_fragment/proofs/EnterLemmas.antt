@@ -1,5 +1,5 @@
 -- Entering an abstraction.
-use Rattle.std.proofs.Common.{◌≡◌, ℕ, zero, suc, ◌<◌, ◌≤◌, ◌+◌, ◌&&◌, List, length, cond, nat_eq, nat_lt, Bool, true, false, Option, Some, None, refl, sym, ap, ◌∙◌, arith, subst, eqb-true}
+use Rattle.std.proofs.Common.{◌≡◌, ℕ, zero, suc, cond, nat_eq, nat_lt, Bool, true, false, Option, Some, refl, sym, ap, ◌∙◌, subst, eqb-true}
 use mathlib.Core.Path.{fun_ext}
 use Rattle.level_terms.specs.declared.node.Node.{Node}
 use Rattle.level_terms.specs.declared.node.Node.TheVariants.{Lam}
@@ -7,16 +7,15 @@ use Rattle.level_terms.specs.declared.node.TermId.{TermId}
 use Rattle.level_terms.specs.Graph.{Graph, node_at}
 use Rattle.level_terms.specs.Laws.{IsPlace, ArePlaces}
 use Rattle.level_terms.specs.Sound.{IsSound}
-use Rattle.level_terms.specs.Valid.{valid, IsValid}
+use Rattle.level_terms.specs.Valid.{IsValid}
 use Rattle.level_terms.specs.Reading.{read, enter}
-use Rattle.level_terms.proofs.LocalLemmas.{and_left, and_right}
+use Rattle.level_terms.proofs.LocalLemmas.{and_right}
 use Rattle.level_terms.proofs.SubLemmas.{at_level}
 use Rattle.level_terms.proofs.NodeLemmas.{nodes_read}
 use Rattle.level_terms.proofs.ValidLemmas.{nodes_valid}
 use Rattle.ref_terms.specs.terms.Term as term
 use Rattle.ref_terms.specs.terms.Term.{Term, At}
 use Rattle.ref_terms.specs.terms.Index.{sub, first, shift, next}
-use Rattle.ref_terms.specs.terms.Ready.{ready}
 use Rattle.ref_terms.specs.terms.Apply.{apply}
 use Rattle.ref_terms.specs.lemmas.FillLemmas.{apply-lam}
 use Rattle.ref_terms.specs.lemmas.TermLemmas.{sub-ren, sub_id}

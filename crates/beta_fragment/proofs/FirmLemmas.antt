@@ -1,8 +1,8 @@
 -- What a look at a node tells of its term.
-use Rattle.std.proofs.Common.{◌≡◌, ℕ, zero, suc, ◌<◌, ◌≤◌, ◌++◌, List, [], ◌∷◌, length, map, cond, nat_eq, Bool, true, false, Option, Some, None, slice_index, slice_get, ◌-◌, refl, sym, ap, ap₂, ◌∙◌, arith, subst, ne_eqb, IfSome}
+use Rattle.std.proofs.Common.{◌≡◌, ℕ, zero, suc, ◌<◌, ◌≤◌, ◌++◌, List, [], ◌∷◌, length, map, cond, true, false, Option, Some, None, slice_index, slice_get, ◌-◌, refl, sym, ap, ◌∙◌, arith, subst, ne_eqb, IfSome}
 use mathlib.Core.Path.{fun_ext}
 use Rattle.level_terms.specs.declared.node.Node.{Node}
-use Rattle.level_terms.specs.declared.node.Node.TheVariants.{Con, Int, Str, Level, Lam, App, Var}
+use Rattle.level_terms.specs.declared.node.Node.TheVariants.{Level, Lam, App, Var}
 use Rattle.level_terms.specs.declared.node.TermId.{TermId}
 use Rattle.level_terms.specs.declared.node.VarId.{VarId}
 use Rattle.level_terms.specs.Graph.{Graph, node_at, value_in}
@@ -15,7 +15,7 @@ use Rattle.level_terms.proofs.LocalLemmas.{readings_local}
 use Rattle.level_terms.proofs.NodeLemmas.{nodes_read}
 use Rattle.ref_terms.specs.terms.Term as term
 use Rattle.ref_terms.specs.terms.Term.{Term, Head, At}
-use Rattle.ref_terms.specs.terms.Index.{ren, up, shift, next, ren_head}
+use Rattle.ref_terms.specs.terms.Index.{ren, up, shift, next}
 use Rattle.ref_terms.specs.lemmas.TermLemmas.{ren_sub}
 use Rattle.std.proofs.lemmas.List.{map-append, length-map}
 use Rattle.ref_terms.specs.terms.Eta.{eta, lam, lam_of, on_index, lower}
@@ -31,10 +31,9 @@ use Rattle.beta_fragment.specs.declared.glance.Readiness.TheVariants.{Level as s
 use Rattle.beta_fragment.specs.Moves.{value_of, IsLamOf, IsVarOf}
 use Rattle.beta_fragment.proofs.MakeLemmas.{and_both}
 use Rattle.beta_fragment.proofs.MoveLemmas.{below_true}
-use Rattle.beta_fragment.specs.Names.{names}
 use Rattle.beta_fragment.specs.HeadForm.{IsAbstraction}
 use Rattle.beta_fragment.specs.Firm.{IsPlain, IsFirmHead, IsFirm, IsFirmNode, IsPlainNode, IsAbstractionNode, EndsOtherwise, IsOther, IsReadiness}
-use Rattle.beta_fragment.proofs.ReadLemmas.{read-built, read-follows}
+use Rattle.beta_fragment.proofs.ReadLemmas.{read-follows}
 
 -- a fact on what a node reads as, by what stands at it
 pub by-node : (P : Term → Type 0) (g : Graph) (t : ℕ) (n : Node) → IsSound g → node_at g.nodes t ≡ Some n → ((env : ℕ → Term) → ArePlaces env → P (node_reads g n env)) → (env : ℕ → Term) → ArePlaces env → P (read g t env)

@@ -1,5 +1,5 @@
 -- The first argument.
-use Rattle.std.proofs.Common.{◌≡◌, ℕ, suc, ◌-◌, List, [], ◌∷◌, ◌++◌, length, reverse, slice_get, Option, Some, None, refl, sym, ap, ◌∙◌, arith, subst}
+use Rattle.std.proofs.Common.{◌≡◌, ℕ, List, [], ◌∷◌, length, reverse, ap, arith, subst}
 use Rattle.level_terms.specs.declared.node.TermId.{TermId}
 use Rattle.level_terms.specs.Graph.{Graph}
 use Rattle.level_terms.specs.Reading.{read}

@@ -1,13 +1,11 @@
 -- The head of a term with its arguments.
-use Rattle.std.proofs.Common.{◌≡◌, ℕ, zero, suc, ◌<◌, ◌≤◌, ◌-◌, ◌+◌, ◌++◌, List, [], ◌∷◌, length, map, drop, take, reverse, slice_index, slice_get, cond, nat_eq, nat_lt, Bool, true, false, Option, Some, None, refl, sym, ap, ap₂, ◌∙◌, arith, subst, append_assoc, length-append, get_or}
+use Rattle.std.proofs.Common.{◌≡◌, ℕ, zero, suc, ◌<◌, ◌≤◌, ◌-◌, ◌+◌, ◌++◌, List, [], ◌∷◌, length, map, drop, take, reverse, slice_index, slice_get, cond, nat_eq, Bool, true, false, Some, None, refl, sym, ap, ap₂, ◌∙◌, arith, subst}
 use Rattle.std.proofs.lemmas.List.{reverse-append, map-append}
-use Rattle.level_terms.specs.declared.node.Node.{Node}
-use Rattle.level_terms.specs.declared.node.Node.TheVariants.{Lam, App, Var}
+use Rattle.level_terms.specs.declared.node.Node.TheVariants.{Lam}
 use Rattle.level_terms.specs.declared.node.TermId.{TermId}
-use Rattle.level_terms.specs.declared.node.VarId.{VarId}
-use Rattle.level_terms.specs.Graph.{Graph, node_at, value_in}
+use Rattle.level_terms.specs.Graph.{Graph, node_at}
 use Rattle.level_terms.specs.Laws.{ArePlaces}
-use Rattle.level_terms.specs.Sound.{IsSound, AllOlder}
+use Rattle.level_terms.specs.Sound.{IsSound}
 use Rattle.level_terms.specs.Valid.{IsValid}
 use Rattle.level_terms.specs.Reading.{read, enter}
 use Rattle.level_terms.specs.Growth.{Grows}

@@ -1,12 +1,11 @@
 -- Names that a list renames.
-use Rattle.std.proofs.Common.{◌≡◌, ℕ, zero, suc, ◌<◌, ◌≤◌, ◌-◌, ◌+◌, List, [], ◌∷◌, length, take, slice_index, cond, nat_lt, Bool, true, refl, sym, ap, ◌∙◌, arith}
+use Rattle.std.proofs.Common.{◌≡◌, ℕ, zero, suc, ◌<◌, ◌≤◌, ◌-◌, ◌+◌, List, [], ◌∷◌, length, take, slice_index, cond, refl, ap, ◌∙◌, arith}
 use Rattle.level_terms.specs.Graph.{Graph}
 use Rattle.level_terms.specs.Valid.{IsValid}
 use Rattle.level_terms.specs.Reading.{read}
 use Rattle.level_terms.proofs.LocalLemmas.{readings_local}
-use Rattle.ref_terms.specs.terms.Term.{Term, At, Name}
 use Rattle.beta_fragment.specs.Names.{names, renamed, AllBelow}
-use Rattle.beta_fragment.specs.Moves.{Value, Moves, moved, moved_level, IsMove}
+use Rattle.beta_fragment.specs.Moves.{Value, Moves, moved, IsMove}
 use Rattle.beta_fragment.proofs.EnterLemmas.{names-places}
 use Rattle.beta_fragment.proofs.MoveLemmas.{below_true}
 

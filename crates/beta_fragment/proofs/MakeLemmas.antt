@@ -1,16 +1,13 @@
 -- What a node that was made means.
-use Rattle.std.proofs.Common.{◌≡◌, ℕ, zero, suc, ◌<◌, ◌≤◌, ◌+◌, ◌++◌, ◌&&◌, List, [], ◌∷◌, length, map, cond, nat_eq, nat_lt, Bool, true, false, Option, Some, None, refl, sym, ap, ap₂, ◌∙◌, arith, subst, eqb-true, eq-eqb, ne_eqb, append_assoc, length-append}
+use Rattle.std.proofs.Common.{◌≡◌, ℕ, suc, ◌<◌, ◌≤◌, ◌+◌, ◌++◌, ◌&&◌, List, [], ◌∷◌, length, map, cond, nat_eq, nat_lt, Bool, true, false, Some, None, refl, sym, ap, ap₂, ◌∙◌, arith, subst, eq-eqb, ne_eqb, length-append}
 use Rattle.std.specs.List.{list_all}
-use mathlib.Core.Path.{fun_ext}
 use Rattle.level_terms.specs.declared.node.Node.{Node}
 use Rattle.level_terms.specs.declared.node.Node.TheVariants.{Con, Int, Str, Level, Lam, App, Var}
 use Rattle.level_terms.specs.declared.node.TermId.{TermId}
-use Rattle.level_terms.specs.Graph.{Graph, Assigned, node_at}
-use Rattle.level_terms.specs.Layer.{layer_of, over}
-use Rattle.level_terms.specs.Laws.{ArePlaces}
+use Rattle.level_terms.specs.Graph.{Graph, node_at}
 use Rattle.level_terms.specs.Sound.{IsSound, IsHead, IsMade, AllMade, AllOlder}
-use Rattle.level_terms.specs.Valid.{valid, layer_valid, IsValid}
-use Rattle.level_terms.specs.Reading.{read, enter, node_reads}
+use Rattle.level_terms.specs.Valid.{valid}
+use Rattle.level_terms.specs.Reading.{read, enter}
 use Rattle.level_terms.specs.Growth.{Grows}
 use Rattle.level_terms.proofs.LocalLemmas.{and_left, and_right}
 use Rattle.level_terms.proofs.SoundLemmas.{valid-grown}
@@ -18,8 +15,7 @@ use Rattle.level_terms.proofs.GrowthLemmas.{grows-node}
 use Rattle.level_terms.proofs.NodeLemmas.{nodes_read}
 use Rattle.level_terms.proofs.ValidLemmas.{nodes_valid}
 use Rattle.level_terms.proofs.FoldLemmas.{parts_of, parts_older, names_older, node_at-below}
-use Rattle.ref_terms.specs.terms.Term as term
-use Rattle.ref_terms.specs.terms.Term.{Term, At}
+use Rattle.ref_terms.specs.terms.Term.{Term}
 use Rattle.ref_terms.specs.terms.Eta.{lam}
 use Rattle.ref_terms.specs.terms.Apply.{apply}
 use Rattle.ref_terms.specs.unification.Spine.{apply_all}

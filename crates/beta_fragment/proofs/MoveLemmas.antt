@@ -1,24 +1,21 @@
 -- Nodes with their levels moved.
-use Rattle.std.proofs.Common.{◌≡◌, ℕ, zero, suc, ◌<◌, ◌≤◌, ◌+◌, ◌-◌, ◌*◌, ◌++◌, ◌&&◌, List, [], ◌∷◌, length, map, cond, nat_eq, nat_lt, Bool, true, false, Option, Some, None, slice_index, refl, sym, ap, ap₂, ◌∙◌, arith, subst, eqb-true, eq-eqb, ne_eqb, min, length-append}
+use Rattle.std.proofs.Common.{◌≡◌, ℕ, suc, ◌<◌, ◌≤◌, ◌+◌, ◌-◌, ◌++◌, List, [], ◌∷◌, length, map, cond, nat_eq, nat_lt, Bool, true, false, Some, slice_index, refl, sym, ap, ap₂, ◌∙◌, arith, eqb-true, eq-eqb, ne_eqb, min, length-append}
 use Rattle.std.specs.List.{list_all}
-use mathlib.Core.Path.{fun_ext}
 use Rattle.level_terms.specs.declared.node.Node.{Node}
-use Rattle.level_terms.specs.declared.node.Node.TheVariants.{Con, Int, Str, Level, Lam, App, Var}
+use Rattle.level_terms.specs.declared.node.Node.TheVariants.{Level, Lam, App, Var}
 use Rattle.level_terms.specs.declared.node.TermId.{TermId}
 use Rattle.level_terms.specs.declared.node.VarId.{VarId}
 use Rattle.level_terms.specs.declared.node.Change.{Change}
 use Rattle.level_terms.specs.Graph.{Graph, Assigned, node_at, value_in}
-use Rattle.level_terms.specs.Layer.{layer_of, over}
 use Rattle.level_terms.specs.Laws.{ArePlaces}
-use Rattle.level_terms.specs.Sound.{IsSound, AllOlder}
+use Rattle.level_terms.specs.Sound.{IsSound}
 use Rattle.level_terms.specs.Valid.{valid, IsValid}
-use Rattle.level_terms.specs.Reading.{read, enter, levels, variable_reads}
+use Rattle.level_terms.specs.Reading.{read, enter, variable_reads}
 use Rattle.level_terms.specs.Growth.{Grows, changes_of}
 use Rattle.level_terms.proofs.LocalLemmas.{and_left, and_right, readings_local}
 use Rattle.level_terms.proofs.NodeLemmas.{nodes_read, value-valid}
 use Rattle.level_terms.proofs.CoverLemmas.{places-enter}
 use Rattle.level_terms.proofs.ValidLemmas.{nodes_valid, valid_deeper}
-use Rattle.level_terms.proofs.FoldLemmas.{over-older}
 use Rattle.level_terms.proofs.GrowthLemmas.{changes-length}
 use Rattle.ref_terms.specs.terms.Term as term
 use Rattle.ref_terms.specs.terms.Term.{Term, At}
@@ -28,7 +25,6 @@ use Rattle.ref_terms.specs.unification.Spine.{apply_all}
 use Rattle.beta_fragment.specs.Names.{AllBelow}
 use Rattle.beta_fragment.specs.HeadForm.{AllValidAt}
 use Rattle.beta_fragment.specs.Moves.{Value, value_of, Moves, IsLamOf, IsAppOf, IsLevelOf, IsMove, Plan, naming, Does, moved, moved_level}
-use Rattle.beta_fragment.proofs.ReadLemmas.{valid-below}
 use Rattle.beta_fragment.proofs.EnterLemmas.{body-valid}
 use Rattle.beta_fragment.proofs.MakeLemmas.{and_both, newest}
 

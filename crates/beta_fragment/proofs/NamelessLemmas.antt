@@ -1,5 +1,5 @@
 -- A name stands in a reading only where a level stands for it.
-use Rattle.std.proofs.Common.{◌≡◌, ℕ, zero, suc, ◌||◌, List, [], ◌∷◌, map, length, cond, nat_eq, Bool, true, false, slice_index, refl, sym, ap, ◌∙◌, arith}
+use Rattle.std.proofs.Common.{◌≡◌, ℕ, zero, suc, List, [], ◌∷◌, map, length, cond, nat_eq, Bool, true, false, slice_index, refl, ◌∙◌}
 use Rattle.level_terms.specs.declared.node.Node.{Node}
 use Rattle.level_terms.specs.declared.node.Node.TheVariants.{Con, Int, Str, Level, Lam, App, Var}
 use Rattle.level_terms.specs.declared.node.TermId.{TermId}
@@ -9,10 +9,9 @@ use Rattle.level_terms.specs.Reading.{read, enter, levels, layer_term, node_term
 use Rattle.ref_terms.specs.terms.Term as term
 use Rattle.ref_terms.specs.terms.Term.{Term, Head, At}
 use Rattle.ref_terms.specs.terms.Index.{shift, next}
-use Rattle.ref_terms.specs.terms.Eta.{lam}
 use Rattle.ref_terms.specs.terms.Apply.{apply}
 use Rattle.ref_terms.specs.terms.Occurs.{is_name, is_variable, has_name}
-use Rattle.ref_terms.specs.terms.Instance.{only, valued, inst, inst_all}
+use Rattle.ref_terms.specs.terms.Instance.{only, valued, inst_all}
 use Rattle.ref_terms.specs.unification.Spine.{apply_all}
 use Rattle.ref_terms.specs.lemmas.NameLemmas.{has_name-ren, nameless-apply, nameless-lam, nameless-fill}
 use Rattle.beta_fragment.specs.Moves.{Lacks}

@@ -1,5 +1,5 @@
 -- Bodies with a name for their own.
-use Rattle.std.proofs.Common.{◌≡◌, ℕ, zero, suc, ◌<◌, ◌≤◌, ◌-◌, ◌+◌, ◌++◌, List, [], ◌∷◌, length, slice_index, cond, nat_eq, Bool, true, false, Some, refl, sym, ap, ap₂, ◌∙◌, arith, subst, eqb-true, length-append, get_or}
+use Rattle.std.proofs.Common.{◌≡◌, ℕ, suc, ◌<◌, ◌≤◌, ◌++◌, List, [], ◌∷◌, length, slice_index, cond, nat_eq, Bool, true, false, Some, refl, sym, ap, ap₂, ◌∙◌, arith, subst, eqb-true, length-append}
 use mathlib.Core.Path.{fun_ext}
 use Rattle.std.proofs.lemmas.List.{get_or_append_left}
 use Rattle.std.proofs.Math.Seq.{get_or-append_seam}
@@ -10,11 +10,9 @@ use Rattle.level_terms.specs.Sound.{IsSound}
 use Rattle.level_terms.specs.Valid.{IsValid}
 use Rattle.level_terms.specs.Reading.{read, enter}
 use Rattle.level_terms.proofs.LocalLemmas.{readings_local, step_down}
-use Rattle.level_terms.proofs.SubLemmas.{at_level}
-use Rattle.ref_terms.specs.terms.Term as term
-use Rattle.ref_terms.specs.terms.Term.{Term, At}
-use Rattle.ref_terms.specs.terms.Index.{sub, first}
-use Rattle.ref_terms.specs.terms.Apply.{apply, open_with}
+use Rattle.ref_terms.specs.terms.Term.{Term}
+use Rattle.ref_terms.specs.terms.Index.{first}
+use Rattle.ref_terms.specs.terms.Apply.{open_with}
 use Rattle.beta_fragment.specs.Names.{names, renamed}
 use Rattle.beta_fragment.specs.Body.{at_name, opened_reads}
 use Rattle.beta_fragment.specs.Moves.{Value, Moves, IsMove}

@@ -1,13 +1,13 @@
 -- Pairs of nodes whose readings are compared.
-use Rattle.std.proofs.Common.{◌≡◌, ℕ, suc, ◌<◌, ◌≤◌, ◌+◌, ◌++◌, ◌↔◌, Bool, true, false, IsTrue, List, [], ◌∷◌, length, map, slice_index, Result, IfOk, option_map, Option, Some, None, IfSome, cond, nat_lt, nat_eq, refl, sym, ap, ap₂, ◌∙◌, arith, subst, append-nil, eqb-true, ne_eqb}
+use Rattle.std.proofs.Common.{◌≡◌, ℕ, suc, ◌<◌, ◌≤◌, ◌+◌, ◌++◌, ◌↔◌, Bool, true, false, IsTrue, List, [], ◌∷◌, length, slice_index, Result, IfOk, option_map, Option, Some, None, IfSome, cond, nat_lt, refl, sym, ap, ap₂, ◌∙◌, arith, subst, append-nil, ne_eqb}
 use Rattle.level_terms.specs.declared.node.Node.TheVariants.{Lam, App, Var}
 use Rattle.level_terms.specs.declared.node.TermId.{TermId}
 use Rattle.level_terms.specs.declared.node.VarId.{VarId}
 use Rattle.level_terms.specs.Graph.{Graph, node_at, value_in}
 use Rattle.level_terms.specs.Sound.{IsSound}
 use Rattle.level_terms.specs.Valid.{IsValid}
-use Rattle.level_terms.specs.Reading.{read, enter, node_reads}
-use Rattle.level_terms.specs.Reached.{tree, tree_size}
+use Rattle.level_terms.specs.Reading.{read}
+use Rattle.level_terms.specs.Reached.{tree}
 use Rattle.level_terms.proofs.LocalLemmas.{readings_local}
 use Rattle.level_terms.proofs.NodeLemmas.{nodes_read, value-valid}
 use Rattle.level_terms.proofs.TreeLemmas.{value_below}
@@ -26,7 +26,7 @@ use Rattle.beta_fragment.specs.Moves.{Lacks}
 use Rattle.beta_fragment.specs.Cells.{term_at, Gains, IsKept}
 use Rattle.beta_fragment.proofs.CellLemmas.{kept-gains}
 use Rattle.beta_fragment.specs.declared.equality.Pair.{Pair}
-use Rattle.beta_fragment.specs.Pairs.{IsValidPair, AllValidPairs, IsSame, AllSame, pair_size, pairs_size, pairs_of, StandsFor, Divides, TurnsOut, IsValueOf}
+use Rattle.beta_fragment.specs.Pairs.{IsValidPair, AllValidPairs, IsSame, AllSame, pairs_size, pairs_of, StandsFor, Divides, TurnsOut, IsValueOf}
 use Rattle.beta_fragment.proofs.EnterLemmas.{names-places, body-entered, body-valid}
 use Rattle.beta_fragment.proofs.FirmLemmas.{apply-plain, reads-value}
 use Rattle.beta_fragment.proofs.MoveLemmas.{app-valid, below_true}

@@ -1,8 +1,7 @@
 -- Nodes with a term in the place of a level.
-use Rattle.std.proofs.Common.{◌≡◌, ℕ, zero, suc, ◌<◌, ◌≤◌, ◌-◌, ◌+◌, ◌||◌, List, [], ◌∷◌, ◌++◌, map, length, cond, nat_eq, nat_lt, Bool, true, false, Some, None, slice_index, refl, sym, ap, ap₂, ◌∙◌, arith, subst, eqb-true, eq-eqb, ne_eqb}
+use Rattle.std.proofs.Common.{◌≡◌, ℕ, zero, suc, ◌<◌, ◌≤◌, ◌-◌, ◌+◌, List, [], ◌∷◌, ◌++◌, map, length, cond, nat_eq, nat_lt, Bool, true, false, Some, None, slice_index, refl, sym, ap, ap₂, ◌∙◌, arith, subst, eqb-true, eq-eqb, ne_eqb}
 use Rattle.std.specs.List.{list_all}
 use mathlib.Core.Path.{fun_ext}
-use Rattle.level_terms.specs.declared.node.Node.{Node}
 use Rattle.level_terms.specs.declared.node.Node.TheVariants.{Level, Lam, App, Var}
 use Rattle.level_terms.specs.declared.node.TermId.{TermId}
 use Rattle.level_terms.specs.declared.node.VarId.{VarId}
@@ -11,13 +10,13 @@ use Rattle.level_terms.specs.Laws.{IsPlace, ArePlaces}
 use Rattle.level_terms.specs.Sound.{IsSound}
 use Rattle.level_terms.specs.Valid.{valid, IsValid}
 use Rattle.level_terms.specs.Reading.{read, enter, levels, variable_reads}
-use Rattle.level_terms.proofs.LocalLemmas.{readings_local, step_down, and_left}
+use Rattle.level_terms.proofs.LocalLemmas.{readings_local, and_left}
 use Rattle.level_terms.proofs.CoverLemmas.{places-enter}
-use Rattle.level_terms.proofs.NodeLemmas.{nodes_read, value-valid}
+use Rattle.level_terms.proofs.NodeLemmas.{nodes_read}
 use Rattle.level_terms.proofs.ValidLemmas.{nodes_valid, valid_deeper}
 use Rattle.ref_terms.specs.terms.Term as term
 use Rattle.ref_terms.specs.terms.Term.{Term, Head, At}
-use Rattle.ref_terms.specs.terms.Index.{shift, next}
+use Rattle.ref_terms.specs.terms.Index.{shift}
 use Rattle.ref_terms.specs.terms.Eta.{lam}
 use Rattle.ref_terms.specs.terms.Apply.{apply, below, fill}
 use Rattle.ref_terms.specs.terms.Built.{IsBuilt}
@@ -27,13 +26,13 @@ use Rattle.ref_terms.specs.laws.TermLaws.{AllBuilt}
 use Rattle.ref_terms.specs.lemmas.ComposeLemmas.{fill-lam}
 use Rattle.ref_terms.specs.lemmas.OccursLemmas.{fill_at}
 use Rattle.ref_terms.specs.lemmas.NameLemmas.{fill-agree_names}
-use Rattle.beta_fragment.specs.Moves.{Value, value_of, Plan, putting, Does, Puts, IsLamOf, IsAppOf, IsLevelOf, IsVarOf, IsPutLevel, ArePutLevels, IsPutVar, around, put_name, Lacks}
+use Rattle.beta_fragment.specs.Moves.{Value, putting, Puts, IsLamOf, IsAppOf, IsLevelOf, IsVarOf, IsPutLevel, ArePutLevels, IsPutVar, around, put_name, Lacks}
 use Rattle.beta_fragment.specs.Firm.{IsPlain, IsPlainNode}
 use Rattle.beta_fragment.proofs.ReadLemmas.{read-built}
 use Rattle.beta_fragment.proofs.EnterLemmas.{body-valid}
 use Rattle.beta_fragment.proofs.MakeLemmas.{and_both}
 use Rattle.beta_fragment.proofs.MoveLemmas.{below_true, below_false, below_from, above_from, AllMove}
-use Rattle.beta_fragment.proofs.FirmLemmas.{apply-plain, apply_all-plain}
+use Rattle.beta_fragment.proofs.FirmLemmas.{apply-plain}
 use Rattle.beta_fragment.proofs.NamelessLemmas.{lacks-enter, nameless-read}
 
 -- what a term that is put in a place has to keep: it is built, and is valid at the level

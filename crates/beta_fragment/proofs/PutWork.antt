@@ -4,7 +4,6 @@ use Rattle.level_terms.specs.declared.node.Node.TheVariants.{Lam as lam_node, Ap
 use Rattle.level_terms.specs.declared.node.TermId.{TermId}
 use Rattle.level_terms.specs.declared.node.VarId.{VarId}
 use Rattle.level_terms.specs.Graph.{Graph, node_at, value_in}
-use Rattle.level_terms.specs.Laws.{ArePlaces}
 use Rattle.level_terms.specs.Sound.{IsSound}
 use Rattle.level_terms.specs.Valid.{IsValid}
 use Rattle.level_terms.specs.Reading.{read}

@@ -2,7 +2,6 @@
 use Rattle.std.proofs.Common.{◌≡◌, ℕ, zero, suc, ◌<◌, ◌+◌, ◌-◌, List, [], ◌∷◌, length, map, cond, nat_eq, nat_lt, Bool, true, false, Option, Some, None, refl, sym, ap, ap₂, ◌∙◌, arith, subst, ne_eqb}
 use Rattle.std.specs.List.{list_all}
 use Rattle.level_terms.specs.declared.node.Node.{Node}
-use Rattle.level_terms.specs.declared.node.Node.TheVariants as node
 use Rattle.level_terms.specs.declared.node.TermId.{TermId}
 use Rattle.level_terms.specs.Graph.{Graph, node_at}
 use Rattle.level_terms.specs.Laws.{ArePlaces}
@@ -19,7 +18,7 @@ use Rattle.ref_terms.specs.terms.Term as term
 use Rattle.ref_terms.specs.terms.Term.{Term, Head, At}
 use Rattle.ref_terms.specs.terms.Index.{shift, next}
 use Rattle.ref_terms.specs.terms.Eta.{lam}
-use Rattle.ref_terms.specs.terms.Apply.{below, fill}
+use Rattle.ref_terms.specs.terms.Apply.{fill}
 use Rattle.ref_terms.specs.terms.Occurs.{is_name}
 use Rattle.ref_terms.specs.unification.Spine.{apply_all}
 use Rattle.ref_terms.specs.lemmas.TermLemmas.{ren_sub}

@@ -1,5 +1,5 @@
 -- The nodes of the sample that the tests use.
-use Rattle.std.proofs.Common.{◌≡◌, ℕ, List, [], ◌∷◌, Bool, true, length, refl, sym, ap, ◌∙◌, subst}
+use Rattle.std.proofs.Common.{◌≡◌, ℕ, List, [], ◌∷◌, true, length, refl, ap, ◌∙◌}
 use Rattle.level_terms.specs.declared.node.Node.{Node}
 use Rattle.level_terms.specs.declared.node.Node.TheVariants.{Con, Level, Lam, App}
 use Rattle.level_terms.specs.declared.node.TermId.{TermId}

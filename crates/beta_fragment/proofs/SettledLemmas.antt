@@ -16,7 +16,6 @@ use Rattle.ref_terms.specs.unification.Spine.{apply_all}
 use Rattle.ref_terms.specs.lemmas.OccursLemmas.{fill_at}
 use Rattle.ref_terms.specs.lemmas.NameLemmas.{or_left, or_right}
 use Rattle.beta_fragment.specs.declared.answer.RigidHead.{RigidHead}
-use Rattle.beta_fragment.specs.declared.answer.Whnf.TheVariants.{Lam}
 use Rattle.beta_fragment.specs.Names.{names}
 use Rattle.beta_fragment.specs.Body.{IsLam}
 use Rattle.beta_fragment.specs.HeadForm.{AllValidAt, all_read, rigid_head, IsAbstraction, ReadsAsLam, FirstUnready}

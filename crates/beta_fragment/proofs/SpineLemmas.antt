@@ -1,5 +1,5 @@
 -- Pairs of arguments, and heads that no assignment changes before their arguments.
-use Rattle.std.proofs.Common.{◌≡◌, ℕ, zero, suc, ◌<◌, ◌+◌, ◌++◌, List, [], ◌∷◌, length, drop, reverse, get_or, Option, Some, None, IfSome, refl, sym, ap, ap₂, ◌∙◌, arith, subst, append-nil, append_assoc}
+use Rattle.std.proofs.Common.{◌≡◌, ℕ, zero, suc, ◌<◌, ◌++◌, List, [], ◌∷◌, length, drop, reverse, get_or, Option, Some, None, IfSome, refl, sym, ap, ap₂, ◌∙◌, arith, subst, append-nil, append_assoc}
 use Rattle.std.proofs.lemmas.List.{length-map, reverse-append, reverse-reverse}
 use Rattle.level_terms.specs.declared.node.Node.{Node}
 use Rattle.level_terms.specs.declared.node.Node.TheVariants.{Con, Int, Str, Level, Lam, App, Var}
@@ -10,7 +10,6 @@ use Rattle.level_terms.specs.Valid.{IsValid}
 use Rattle.level_terms.specs.Reading.{read}
 use Rattle.level_terms.specs.Reached.{tree, tree_size}
 use Rattle.level_terms.proofs.NodeLemmas.{nodes_read}
-use Rattle.ref_terms.specs.terms.Term as term
 use Rattle.ref_terms.specs.terms.Term.{Term, Head, At}
 use Rattle.ref_terms.specs.terms.Apply.{apply}
 use Rattle.ref_terms.specs.unification.Spine.{apply_all, args_of, head_of}

@@ -1,5 +1,5 @@
 -- A list taken apart before its last items.
-use Rattle.std.proofs.Common.{◌≡◌, ℕ, zero, suc, ◌<◌, ◌-◌, ◌++◌, List, [], ◌∷◌, length, take, drop, get_or, refl, sym, ap, ap₂, ◌∙◌, arith, subst, length-drop}
+use Rattle.std.proofs.Common.{◌≡◌, ℕ, zero, suc, ◌<◌, ◌-◌, ◌++◌, List, [], ◌∷◌, length, take, drop, get_or, refl, sym, ap, ◌∙◌, arith, length-drop}
 use Rattle.level_terms.specs.declared.node.TermId.{TermId}
 
 split-index : (xs : List TermId) (i : ℕ) (d : TermId) → i < length xs → xs ≡ take i xs ++ get_or xs i d ∷ drop (suc i) xs

@@ -1,5 +1,5 @@
 -- The least depths at which nodes are valid.
-use Rattle.std.proofs.Common.{◌≡◌, ℕ, suc, ◌≤◌, ◌<◌, ◌&&◌, ◌++◌, List, [], ◌∷◌, length, cond, nat_eq, nat_lt, Bool, true, false, Some, None, slice_index, refl, sym, ap, ◌∙◌, arith, subst}
+use Rattle.std.proofs.Common.{◌≡◌, ℕ, suc, ◌≤◌, ◌<◌, ◌++◌, List, [], ◌∷◌, length, cond, nat_eq, nat_lt, Bool, true, false, Some, None, slice_index, sym, ◌∙◌, arith, subst}
 use Rattle.level_terms.specs.declared.node.Node.{Node}
 use Rattle.level_terms.specs.declared.node.Node.TheVariants.{Con, Int, Str, Level, Lam, App, Var}
 use Rattle.level_terms.specs.declared.node.TermId.{TermId}
@@ -8,8 +8,8 @@ use Rattle.ref_terms.specs.declared.sym.Sym.{Sym}
 use Rattle.level_terms.specs.Graph.{Graph, node_at}
 use Rattle.level_terms.specs.Sound.{IsSound, IsMade, AllMade}
 use Rattle.beta_fragment.specs.HeadForm.{AllValidAt}
-use Rattle.level_terms.specs.Valid.{valid, IsValid}
-use Rattle.level_terms.proofs.LocalLemmas.{and_left, and_right}
+use Rattle.level_terms.specs.Valid.{IsValid}
+use Rattle.level_terms.proofs.LocalLemmas.{and_right}
 use Rattle.level_terms.proofs.ValidLemmas.{nodes_valid}
 use Rattle.std.specs.Prelude.{ℤ}
 use Rattle.beta_fragment.proofs.MakeLemmas.{and_both}

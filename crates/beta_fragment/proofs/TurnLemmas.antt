@@ -1,28 +1,25 @@
 -- Turns.
-use Rattle.std.proofs.Common.{◌≡◌, ℕ, zero, suc, ◌<◌, ◌≤◌, ◌-◌, ◌+◌, ◌++◌, List, [], ◌∷◌, length, map, take, reverse, slice_index, cond, nat_eq, Bool, true, false, Option, Some, None, IfSome, min, refl, sym, ap, ap₂, ◌∙◌, arith, subst, eqb-true}
+use Rattle.std.proofs.Common.{◌≡◌, ℕ, suc, ◌<◌, ◌≤◌, ◌++◌, List, [], ◌∷◌, length, map, take, reverse, slice_index, cond, nat_eq, Bool, true, false, Option, Some, None, IfSome, min, refl, sym, ap, ap₂, ◌∙◌, arith, subst, eqb-true}
 use Rattle.level_terms.specs.declared.node.Node.{Node}
 use Rattle.level_terms.specs.declared.node.Node.TheVariants.{Lam, App, Var, Level as node_level}
 use Rattle.level_terms.specs.declared.node.TermId.{TermId}
 use Rattle.level_terms.specs.declared.node.VarId.{VarId}
 use Rattle.level_terms.specs.Graph.{Graph, node_at, value_in}
-use Rattle.level_terms.specs.Laws.{ArePlaces}
 use Rattle.level_terms.specs.Sound.{IsSound}
 use Rattle.level_terms.specs.Valid.{IsValid}
-use Rattle.level_terms.specs.Reading.{read, enter, node_reads}
+use Rattle.level_terms.specs.Reading.{read, node_reads}
 use Rattle.level_terms.specs.Growth.{Grows}
-use Rattle.level_terms.specs.Reached.{tree, tree_size}
 use Rattle.level_terms.proofs.LocalLemmas.{readings_local, step_down}
 use Rattle.level_terms.proofs.SubLemmas.{at_level}
 use Rattle.level_terms.proofs.NodeLemmas.{nodes_read, value-valid}
 use Rattle.level_terms.proofs.TreeLemmas.{value_below}
 use Rattle.level_terms.proofs.ValidLemmas.{valid_deeper, growth_keeps_valid}
-use Rattle.level_terms.proofs.GrowthLemmas.{grows-refl}
 use Rattle.ref_terms.specs.terms.Term as term
 use Rattle.ref_terms.specs.terms.Term.{Term, At}
 use Rattle.ref_terms.specs.terms.Apply.{apply}
 use Rattle.ref_terms.specs.terms.Ready.{ready}
 use Rattle.ref_terms.specs.unification.Spine.{apply_all}
-use Rattle.beta_fragment.specs.Names.{names, renamed, AllBelow}
+use Rattle.beta_fragment.specs.Names.{names, renamed}
 use Rattle.beta_fragment.specs.Moves.{IsMove}
 use Rattle.beta_fragment.specs.HeadForm.{AllValidAt, all_read, FirstUnready}
 use Rattle.beta_fragment.specs.Firm.{IsSpine}
@@ -35,11 +32,10 @@ use Rattle.beta_fragment.proofs.ReadLemmas.{valid-below, grown-reads}
 use Rattle.beta_fragment.proofs.EnterLemmas.{body-applied, body-valid}
 use Rattle.beta_fragment.proofs.MakeLemmas.{apply_all-append, parts-there}
 use Rattle.beta_fragment.proofs.MoveLemmas.{node-before, assigned-before, app-valid}
-use Rattle.beta_fragment.proofs.VarLemmas.{var-known}
-use Rattle.beta_fragment.proofs.StayLemmas.{var-low, level-low}
-use Rattle.beta_fragment.proofs.WorkLemmas.{app-size, lam-size, total}
+use Rattle.beta_fragment.proofs.StayLemmas.{var-low}
+use Rattle.beta_fragment.proofs.WorkLemmas.{app-size, lam-size}
 use Rattle.beta_fragment.proofs.FirmLemmas.{reads-value}
-use Rattle.beta_fragment.proofs.HeadLemmas.{renamed-places, take-front, take-next, take-more, lam-within, newest-arg, valid-grown_all, read-grown_all}
+use Rattle.beta_fragment.proofs.HeadLemmas.{renamed-places, take-front, take-next, take-more, lam-within, newest-arg}
 
 pub some-weaker : {A : Type 0} (o : Option A) (P Q : A → Type 0) → ((x : A) → P x → Q x) → IfSome o P → IfSome o Q
 some-weaker None P Q f h = tt

@@ -1,5 +1,5 @@
 -- Variables that have no value.
-use Rattle.std.proofs.Common.{◌≡◌, ℕ, zero, suc, ◌<◌, ◌≤◌, ◌+◌, ◌-◌, ◌*◌, min, ◌++◌, List, [], ◌∷◌, length, map, cond, nat_eq, nat_lt, Bool, true, false, Option, Some, None, slice_index, refl, sym, ap, ap₂, ◌∙◌, arith, subst, ne_eqb, eq-eqb}
+use Rattle.std.proofs.Common.{◌≡◌, ℕ, zero, suc, ◌<◌, ◌≤◌, ◌+◌, ◌-◌, ◌*◌, min, ◌++◌, List, [], ◌∷◌, length, map, cond, nat_eq, nat_lt, Bool, true, false, Some, None, slice_index, refl, sym, ap, ap₂, ◌∙◌, arith, subst, ne_eqb, eq-eqb}
 use Rattle.std.specs.List.{list_all}
 use mathlib.Core.Path.{fun_ext}
 use Rattle.level_terms.specs.declared.node.Node.{Node}
@@ -17,7 +17,7 @@ use Rattle.beta_fragment.specs.declared.renaming.Task.{Task}
 use Rattle.beta_fragment.specs.declared.renaming.Task.TheVariants.{Visit}
 use Rattle.beta_fragment.specs.Work.{Leads, work_size}
 use Rattle.level_terms.specs.Valid.{IsValid}
-use Rattle.level_terms.specs.Reading.{read, enter, levels, variable_reads}
+use Rattle.level_terms.specs.Reading.{enter, levels, variable_reads}
 use Rattle.level_terms.proofs.CoverLemmas.{places-enter}
 use Rattle.level_terms.proofs.NodeLemmas.{nodes_read, value-valid}
 use Rattle.level_terms.proofs.ValidLemmas.{nodes_valid}

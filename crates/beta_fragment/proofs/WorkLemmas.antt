@@ -1,23 +1,19 @@
 -- Steps of the walk.
-use Rattle.std.proofs.Common.{◌≡◌, ℕ, zero, suc, ◌<◌, ◌≤◌, ◌+◌, ◌-◌, ◌*◌, ◌++◌, List, [], ◌∷◌, length, map, reverse, slice_index, refl, sym, ap, ap₂, ◌∙◌, arith, subst, length-append, append_assoc, append-nil, min, Some}
-use Rattle.std.proofs.lemmas.List.{reverse-append, reverse-reverse, length-map, map-append}
-use Rattle.level_terms.specs.declared.node.Node.{Node}
-use Rattle.level_terms.specs.declared.node.Node.TheVariants.{Con, Int, Str, Level, Lam as lam_node, App as app_node, Var}
+use Rattle.std.proofs.Common.{◌≡◌, ℕ, suc, ◌<◌, ◌≤◌, ◌+◌, ◌-◌, ◌*◌, ◌++◌, List, [], ◌∷◌, length, map, reverse, refl, sym, ap, ap₂, ◌∙◌, arith, subst, length-append, append_assoc, append-nil, min, Some}
+use Rattle.std.proofs.lemmas.List.{reverse-append, length-map, map-append}
+use Rattle.level_terms.specs.declared.node.Node.TheVariants.{Lam as lam_node, App as app_node}
 use Rattle.level_terms.specs.declared.node.TermId.{TermId}
-use Rattle.level_terms.specs.declared.node.VarId.{VarId}
-use Rattle.level_terms.specs.Graph.{Graph, node_at, value_in}
-use Rattle.level_terms.specs.Layer.{layer_of}
+use Rattle.level_terms.specs.Graph.{Graph, node_at}
 use Rattle.level_terms.specs.Sound.{IsSound, AllOlder}
 use Rattle.level_terms.specs.Valid.{IsValid}
 use Rattle.level_terms.specs.Growth.{Grows}
 use Rattle.level_terms.specs.Reached.{Tree, Leaf, Hole, One, Two, plant, grown, layer_tree, node_tree, trees_of, tree, tree_size}
 use Rattle.level_terms.proofs.FoldLemmas.{over-at, names_older}
-use Rattle.level_terms.proofs.GrowthLemmas.{grows-trans}
 use Rattle.beta_fragment.specs.declared.renaming.Task.{Task}
 use Rattle.beta_fragment.specs.declared.renaming.Task.TheVariants.{Visit, Lam, App}
 use Rattle.beta_fragment.specs.HeadForm.{AllValidAt}
 use Rattle.beta_fragment.specs.Moves.{Value, value_of, Plan, naming, Does, IsLow, HasFew, IsLamOf, IsAppOf}
-use Rattle.beta_fragment.specs.Work.{Leads, task_size, work_size, State, IsLeading, Steps, visits, IsReady}
+use Rattle.beta_fragment.specs.Work.{Leads, work_size, Steps, visits, IsReady}
 use Rattle.beta_fragment.specs.Names.{AllBelow}
 use Rattle.beta_fragment.proofs.ReadLemmas.{valid-below}
 use Rattle.beta_fragment.proofs.EnterLemmas.{body-valid}

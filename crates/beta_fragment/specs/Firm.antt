@@ -1,11 +1,8 @@
 -- What is certain of a term at a glance.
 use Rattle.std.specs.Prelude.{◌≡◌, ℕ, ◌<◌, ◌⊎◌, false, List, [], ◌∷◌, length, map, Option, Some, None, reverse}
-use Rattle.level_terms.specs.declared.node.Node.{Node}
-use Rattle.level_terms.specs.declared.node.Node.TheVariants.{App}
 use Rattle.level_terms.specs.declared.node.TermId.{TermId}
 use Rattle.level_terms.specs.Graph.{Graph}
 use Rattle.level_terms.specs.Laws.{ArePlaces}
-use Rattle.level_terms.specs.Valid.{IsValid}
 use Rattle.level_terms.specs.Sound.{AllOlder}
 use Rattle.level_terms.specs.Reading.{read, enter}
 use Rattle.ref_terms.specs.terms.Term as term
@@ -13,7 +10,7 @@ use Rattle.ref_terms.specs.terms.Term.{Term, Head}
 use Rattle.ref_terms.specs.terms.Eta.{eta, partial}
 use Rattle.ref_terms.specs.terms.Ready.{ready}
 use Rattle.ref_terms.specs.unification.Spine.{apply_all, head_of}
-use Rattle.beta_fragment.specs.Names.{names, renamed, AllBelow}
+use Rattle.beta_fragment.specs.Names.{names, renamed}
 use Rattle.beta_fragment.specs.HeadForm.{all_read, AllValidAt, IsAbstraction}
 use Rattle.beta_fragment.specs.declared.glance.Readiness.{Readiness}
 use Rattle.beta_fragment.specs.declared.glance.Readiness.TheVariants.{Level, Unready, Unknown}

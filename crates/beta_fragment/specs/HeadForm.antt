@@ -1,7 +1,6 @@
 -- What is seen of a term: an abstraction, or what stands at its head.
 use Rattle.std.specs.Prelude.{◌≡◌, ℕ, ◌<◌, false, List, [], ◌∷◌, map, length, None}
 use Rattle.level_terms.specs.declared.node.TermId.{TermId}
-use Rattle.level_terms.specs.declared.node.VarId.{VarId}
 use Rattle.level_terms.specs.Graph.{Graph, node_at, value_in}
 use Rattle.level_terms.specs.Reading.{read}
 use Rattle.level_terms.specs.Valid.{IsValid}

@@ -1,5 +1,5 @@
 -- Lists of names, of which the first ones are their own.
-use Rattle.std.specs.Prelude.{◌≡◌, ℕ, ◌+◌, ◌<◌, ◌^◌, List, ◌++◌, vec_len}
+use Rattle.std.specs.Prelude.{ℕ, ◌+◌, ◌<◌, ◌^◌, List, ◌++◌, vec_len}
 use Rattle.std.specs.List.{range_with_len}
 use Rattle.beta_fragment.specs.declared.levels.Levels.TheInside.{Inside}
 

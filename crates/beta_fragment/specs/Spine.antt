@@ -1,9 +1,8 @@
 -- Nodes as heads, and the arguments of applications.
-use Rattle.std.specs.Prelude.{◌≡◌, List, [], Option, Some, None}
+use Rattle.std.specs.Prelude.{List, [], Option, Some}
 use Rattle.level_terms.specs.declared.node.Node.{Node}
-use Rattle.level_terms.specs.declared.node.Node.TheVariants.{Con, Int, Str, Level, Lam, App, Var}
+use Rattle.level_terms.specs.declared.node.Node.TheVariants.{App}
 use Rattle.level_terms.specs.declared.node.TermId.{TermId}
-use Rattle.ref_terms.specs.terms.Term as term
 
 -- the arguments of an application
 abbrev pub args_in : Option Node → List TermId

@@ -1,10 +1,6 @@
-use Rattle.std.proofs.Common.{◌≡◌, ◌+◌, suc, Some, ap, sym, ◌∙◌, subst, arith}
+use Rattle.std.proofs.Common.{Some, ap, ◌∙◌, subst, arith}
 use Rattle.level_terms.specs.declared.node.Node.TheVariants.{Lam}
-use Rattle.level_terms.specs.Graph.{node_at}
-use Rattle.level_terms.specs.Reading.{read}
 use Rattle.level_terms.specs.Valid.{IsValid}
-use Rattle.ref_terms.specs.terms.Apply.{apply}
-use Rattle.beta_fragment.specs.Names.{names}
 use Rattle.beta_fragment.proofs.ReadLemmas.{valid-below}
 use Rattle.beta_fragment.proofs.EnterLemmas.{body-entered, body-valid, enter-made}
 use Rattle.beta_fragment.proofs.body.enter.Goals as goal

@@ -1,4 +1,4 @@
-use Rattle.std.proofs.Common.{◌≡◌, ◌∙◌, ap, sym, true, false, subst, Bool, IsTrue}
+use Rattle.std.proofs.Common.{◌≡◌, true, false, subst}
 use Rattle.beta_fragment.specs.Cells.{terms_of}
 use Rattle.beta_fragment.specs.Compared.{ComesTo}
 use Rattle.beta_fragment.proofs.ComparedLemmas.{pair-there, turn-there, turn-whole, turn-each, turn-differs, turn-falls}

@@ -1,4 +1,3 @@
-use Rattle.std.proofs.Common.{◌≡◌, ℕ, ◌<◌, ◌∙◌, List, slice_index, ap}
 use Rattle.beta_fragment.specs.Cells.{terms_of}
 use Rattle.beta_fragment.proofs.PairLemmas.{wholes-told}
 use Rattle.beta_fragment.proofs.equality.same_wholes.Goals as goal

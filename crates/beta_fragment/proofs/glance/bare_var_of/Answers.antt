@@ -1,4 +1,4 @@
-use Rattle.std.proofs.Common.{◌≡◌, ◌<◌, ◌+◌, suc, ◌∙◌, ap, Some, sym, subst, arith, length}
+use Rattle.std.proofs.Common.{◌≡◌, suc, ◌∙◌, ap, Some, subst, arith, length}
 use Rattle.level_terms.specs.declared.node.Node.TheVariants.{Lam}
 use Rattle.level_terms.proofs.FoldLemmas.{parts_older, names_older}
 use Rattle.beta_fragment.specs.Moves.{IsVarOf, value_of}

@@ -1,4 +1,4 @@
-use Rattle.std.proofs.Common.{◌≡◌, ◌<◌, ◌∙◌, ap, sym, subst, refl, Some, List, slice_get, length, ◌-◌}
+use Rattle.std.proofs.Common.{◌∙◌, ap, sym, subst, refl, Some, List, length, ◌-◌}
 use Rattle.level_terms.specs.declared.node.Node.TheVariants.{App}
 use Rattle.level_terms.specs.declared.node.TermId.{TermId}
 use Rattle.level_terms.specs.Sound.{AllOlder}

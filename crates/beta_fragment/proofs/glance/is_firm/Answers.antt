@@ -1,4 +1,4 @@
-use Rattle.std.proofs.Common.{◌≡◌, ◌<◌, ◌∙◌, ap, Some, arith}
+use Rattle.std.proofs.Common.{◌∙◌, ap, Some, arith}
 use Rattle.level_terms.specs.declared.node.Node.TheVariants.{Lam}
 use Rattle.level_terms.proofs.FoldLemmas.{parts_older, names_older}
 use Rattle.std.specs.Prelude.{length}

@@ -1,9 +1,8 @@
-use Rattle.std.proofs.Common.{◌≡◌, ◌∙◌, ap, Some}
-use Rattle.level_terms.specs.declared.node.Node.TheVariants.{Con, Int, Str, Level, App, Var}
-use Rattle.beta_fragment.specs.Firm.{IsPlain, IsFirm}
+use Rattle.std.proofs.Common.{◌∙◌, ap, Some}
+use Rattle.beta_fragment.specs.Firm.{IsFirm}
 use Rattle.beta_fragment.proofs.MakeLemmas.{parts-there}
 use Rattle.beta_fragment.proofs.VarLemmas.{var-known}
-use Rattle.beta_fragment.proofs.FirmLemmas.{by-node, level-plain, var-plain, var-firm, app-firm}
+use Rattle.beta_fragment.proofs.FirmLemmas.{by-node, var-firm, app-firm}
 use Rattle.beta_fragment.proofs.glance.is_firm_end.Goals as goal
 
 pub is_free-requires : goal.is_free-requires

@@ -1,4 +1,4 @@
-use Rattle.std.proofs.Common.{◌≡◌, ◌∙◌, ap, Some}
+use Rattle.std.proofs.Common.{◌∙◌, ap, Some}
 use Rattle.beta_fragment.proofs.LevelLemmas.{level-has}
 use Rattle.beta_fragment.proofs.glance.is_level.Goals as goal
 

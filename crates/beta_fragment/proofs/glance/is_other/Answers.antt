@@ -1,10 +1,9 @@
-use Rattle.std.proofs.Common.{◌≡◌, ◌<◌, ◌∙◌, ap, Some, arith}
-use Rattle.level_terms.specs.declared.node.Node.TheVariants.{App}
+use Rattle.std.proofs.Common.{◌∙◌, ap, Some}
 use Rattle.level_terms.proofs.ValidLemmas.{valid_deeper}
 use Rattle.beta_fragment.proofs.MakeLemmas.{parts-there}
 use Rattle.beta_fragment.proofs.VarLemmas.{var-known}
 use Rattle.beta_fragment.proofs.StayLemmas.{lam-stays, var-stays, app-long}
-use Rattle.beta_fragment.proofs.FirmLemmas.{low-other, firm-other, other-level, other-app}
+use Rattle.beta_fragment.proofs.FirmLemmas.{low-other, other-level, other-app}
 use Rattle.beta_fragment.proofs.glance.is_other.Goals as goal
 
 pub var_depth-requires : goal.var_depth-requires

@@ -1,4 +1,4 @@
-use Rattle.std.proofs.Common.{◌≡◌, ◌<◌, ◌≤◌, ◌∙◌, ap, sym, refl, arith, Some, slice_index}
+use Rattle.std.proofs.Common.{◌∙◌, ap, sym, refl, arith, Some, slice_index}
 use Rattle.level_terms.specs.Reading.{read}
 use Rattle.beta_fragment.proofs.StayLemmas.{var-low}
 use Rattle.beta_fragment.specs.Names.{names}

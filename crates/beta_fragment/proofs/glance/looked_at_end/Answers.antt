@@ -1,4 +1,4 @@
-use Rattle.std.proofs.Common.{◌≡◌, ◌<◌, ◌∙◌, ap, Some}
+use Rattle.std.proofs.Common.{◌∙◌, ap, Some}
 use Rattle.beta_fragment.specs.Names.{names}
 use Rattle.level_terms.specs.Reading.{read}
 use Rattle.beta_fragment.proofs.MakeLemmas.{parts-there}

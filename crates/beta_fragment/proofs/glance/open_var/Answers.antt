@@ -1,4 +1,4 @@
-use Rattle.std.proofs.Common.{◌≡◌, ◌∙◌, ap, Some, sym, subst, eqb-true, slice_index}
+use Rattle.std.proofs.Common.{◌∙◌, ap, Some, sym, subst}
 use Rattle.beta_fragment.specs.Moves.{IsVarOf, value_of}
 use Rattle.beta_fragment.proofs.VarLemmas.{var-known}
 use Rattle.beta_fragment.proofs.FirmLemmas.{var-open}

@@ -1,11 +1,11 @@
-use Rattle.std.proofs.Common.{◌≡◌, ◌∙◌, ◌∷◌, [], List, ap, sym, subst, reverse}
+use Rattle.std.proofs.Common.{◌∙◌, List, ap, sym, subst, reverse}
 use Rattle.level_terms.specs.declared.node.TermId.{TermId}
 use Rattle.beta_fragment.specs.HeadForm.{AllValidAt}
 use Rattle.beta_fragment.specs.Turn.{IsFirst}
 use Rattle.beta_fragment.proofs.ReadLemmas.{valid-below}
 use Rattle.beta_fragment.proofs.FirmLemmas.{last-split}
 use Rattle.beta_fragment.proofs.HeadLemmas.{newest-arg}
-use Rattle.beta_fragment.proofs.FirstLemmas.{first-known, none-first}
+use Rattle.beta_fragment.proofs.FirstLemmas.{first-known}
 use Rattle.beta_fragment.proofs.head.first_of.Goals as goal
 
 pub looked_at-requires : goal.looked_at-requires

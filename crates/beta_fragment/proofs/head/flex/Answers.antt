@@ -1,4 +1,4 @@
-use Rattle.std.proofs.Common.{◌≡◌, ℕ, ◌<◌, ◌++◌, List, length, reverse, map, ap, ap₂, sym, ◌∙◌, subst, arith, length-append}
+use Rattle.std.proofs.Common.{ℕ, ◌++◌, List, length, reverse, map, ap, ◌∙◌, subst, arith, length-append}
 use Rattle.level_terms.specs.declared.node.TermId.{TermId}
 use Rattle.beta_fragment.specs.Moves.{AreLevelsOf, value_of}
 use Rattle.beta_fragment.proofs.MoveLemmas.{assigned-before}

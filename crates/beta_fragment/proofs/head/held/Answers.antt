@@ -1,6 +1,4 @@
-use Rattle.std.proofs.Common.{ℕ, List, length, ap, sym, subst, arith}
-use Rattle.level_terms.specs.Valid.{IsValid}
-use Rattle.beta_fragment.specs.Names.{AllBelow}
+use Rattle.std.proofs.Common.{length, arith}
 use Rattle.beta_fragment.proofs.ReadLemmas.{valid-below}
 use Rattle.beta_fragment.proofs.HeadLemmas.{lam-within}
 use Rattle.beta_fragment.proofs.head.held.Goals as goal

@@ -1,17 +1,11 @@
-use Rattle.std.proofs.Common.{◌≡◌, ℕ, ◌<◌, ◌∙◌, List, ap, sym, refl, subst, Some, length, [], arith, get_or}
-use Rattle.level_terms.specs.declared.node.Node.TheVariants.{App}
-use Rattle.level_terms.specs.declared.node.TermId.{TermId}
-use Rattle.level_terms.specs.Graph.{node_at}
-use Rattle.level_terms.specs.Reading.{read}
-use Rattle.beta_fragment.specs.Names.{names, renamed}
-use Rattle.beta_fragment.specs.HeadForm.{AllValidAt, rigid_head}
+use Rattle.std.proofs.Common.{◌∙◌, ap, sym, refl, Some, length, []}
+use Rattle.beta_fragment.specs.HeadForm.{rigid_head}
 use Rattle.ref_terms.specs.terms.Term as term
 use Rattle.ref_terms.specs.terms.Term.{At}
 use Rattle.std.proofs.lemmas.Int.{to_z-of_z}
 use Rattle.std.proofs.Common.{rules}
 use mir.Val.{SFits}
 use mir.Syntax.{w64}
-use Rattle.beta_fragment.specs.Spine.{args_in}
 use Rattle.level_terms.proofs.GrowthLemmas.{grows-refl}
 use Rattle.beta_fragment.proofs.ReadLemmas.{valid-below}
 use Rattle.beta_fragment.proofs.StayLemmas.{level-low}

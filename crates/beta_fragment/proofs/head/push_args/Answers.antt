@@ -1,7 +1,6 @@
-use Rattle.std.proofs.Common.{◌≡◌, ℕ, suc, ◌<◌, ◌≤◌, ◌-◌, ◌++◌, ◌∷◌, [], List, Some, length, map, drop, reverse, slice_get, ap, ap₂, sym, ◌∙◌, subst, arith, refl}
+use Rattle.std.proofs.Common.{◌≡◌, suc, ◌-◌, ◌++◌, ◌∷◌, [], List, length, map, drop, reverse, slice_get, ap, ap₂, sym, ◌∙◌, subst, arith}
 use Rattle.level_terms.specs.declared.node.TermId.{TermId}
 use Rattle.level_terms.specs.Graph.{node_at}
-use Rattle.level_terms.specs.Valid.{IsValid}
 use Rattle.level_terms.specs.Reading.{read}
 use Rattle.level_terms.proofs.GrowthLemmas.{grows-refl, grows-trans}
 use Rattle.level_terms.proofs.ValidLemmas.{growth_keeps_valid}

@@ -1,4 +1,4 @@
-use Rattle.std.proofs.Common.{◌≡◌, ◌≤◌, ◌++◌, List, length, map, reverse, drop, []}
+use Rattle.std.proofs.Common.{◌≡◌, ◌≤◌, ◌++◌, length, map, reverse, drop, []}
 use Rattle.level_terms.specs.Graph.{node_at}
 use Rattle.level_terms.specs.Reading.{read}
 use Rattle.level_terms.specs.Growth.{Grows}

@@ -1,9 +1,7 @@
-use Rattle.std.proofs.Common.{◌≡◌, ℕ, ◌+◌, ◌∙◌, ◌++◌, ◌∷◌, List, min, reverse, [], ap, sym, subst, arith, length, vec_len}
+use Rattle.std.proofs.Common.{◌≡◌, ℕ, ◌+◌, ◌∙◌, ◌++◌, ◌∷◌, List, reverse, [], ap, subst, arith, vec_len}
 use Rattle.std.specs.Prelude.{MatchOption}
 use Rattle.level_terms.specs.declared.node.TermId.{TermId}
-use Rattle.level_terms.specs.Valid.{IsValid}
 use Rattle.level_terms.proofs.GrowthLemmas.{grows-refl}
-use Rattle.beta_fragment.specs.Names.{AllBelow}
 use Rattle.beta_fragment.specs.Turn.{IsFirst}
 use Rattle.beta_fragment.specs.declared.glance.Readiness.TheVariants.{Level}
 use Rattle.beta_fragment.proofs.TurnLemmas.{lam-turn, pop-split}

@@ -1,4 +1,4 @@
-use Rattle.std.proofs.Common.{◌≡◌, ◌≤◌, length, ap, sym, subst, ◌∙◌, [], arith, slice_index}
+use Rattle.std.proofs.Common.{length, sym, subst, [], arith}
 use Rattle.level_terms.proofs.GrowthLemmas.{grows-refl}
 use Rattle.beta_fragment.specs.Moves.{IsVarOf, value_of}
 use Rattle.beta_fragment.proofs.VarLemmas.{var-known}

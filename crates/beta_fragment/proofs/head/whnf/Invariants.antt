@@ -1,4 +1,4 @@
-use Rattle.std.proofs.Common.{◌≡◌, ◌<◌, length, []}
+use Rattle.std.proofs.Common.{◌<◌, length, []}
 use Rattle.level_terms.specs.Reading.{read}
 use Rattle.level_terms.specs.Valid.{IsValid}
 use Rattle.level_terms.specs.Growth.{Grows}

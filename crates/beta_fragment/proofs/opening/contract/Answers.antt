@@ -1,6 +1,5 @@
-use Rattle.std.proofs.Common.{◌≡◌, Some, [], ap, sym, ◌∙◌, subst}
+use Rattle.std.proofs.Common.{Some, ap, ◌∙◌}
 use Rattle.std.proofs.lemmas.Result.{IfOk-weaker}
-use Rattle.level_terms.proofs.GrowthLemmas.{grows-refl}
 use Rattle.beta_fragment.proofs.ReadLemmas.{valid-below}
 use Rattle.beta_fragment.proofs.StayLemmas.{lam-stays}
 use Rattle.beta_fragment.proofs.HeadLemmas.{lam-within}

@@ -1,10 +1,9 @@
-use Rattle.std.proofs.Common.{◌≡◌, ℕ, ◌<◌, ◌≤◌, ◌+◌, ◌++◌, ◌∷◌, [], List, suc, length, map, ap, sym, ◌∙◌, subst, arith}
+use Rattle.std.proofs.Common.{[], suc, ap, sym, subst, arith}
 use Rattle.std.proofs.lemmas.Result.{IfOk-weaker}
 use Rattle.level_terms.specs.Valid.{IsValid}
 use Rattle.level_terms.specs.Reading.{read}
 use Rattle.level_terms.proofs.GrowthLemmas.{grows-refl}
 use Rattle.level_terms.proofs.ValidLemmas.{valid_deeper}
-use Rattle.beta_fragment.specs.Names.{names}
 use Rattle.beta_fragment.specs.Moves.{value_of}
 use Rattle.beta_fragment.proofs.EnterLemmas.{body-valid}
 use Rattle.beta_fragment.proofs.OpenLemmas.{own-name, own-more, opened-move, opened-node, opened-valid}

@@ -1,5 +1,4 @@
-use Rattle.std.proofs.Common.{◌≡◌, ◌++◌, ◌∷◌, [], List, length, reverse, ap, sym, ◌∙◌, subst}
-use Rattle.level_terms.specs.declared.node.TermId.{TermId}
+use Rattle.std.proofs.Common.{◌++◌, ◌∷◌, [], List, length, reverse, sym, subst}
 use Rattle.level_terms.specs.Reading.{read}
 use Rattle.beta_fragment.specs.Moves.{putting}
 use Rattle.beta_fragment.specs.Work.{Steps, visits}
@@ -8,7 +7,7 @@ use Rattle.beta_fragment.specs.declared.renaming.Task.TheVariants.{Visit, App}
 use Rattle.beta_fragment.proofs.ReadLemmas.{valid-below}
 use Rattle.beta_fragment.proofs.MoveLemmas.{node-before}
 use Rattle.beta_fragment.proofs.VisitLemmas.{pushed-app, reversed-app}
-use Rattle.beta_fragment.proofs.PutWork.{put-app-leads, plain-before}
+use Rattle.beta_fragment.proofs.PutWork.{put-app-leads}
 use Rattle.beta_fragment.proofs.WorkLemmas.{steps-more, app-falls}
 use Rattle.beta_fragment.proofs.putting.put_at_app.Goals as goal
 

@@ -1,4 +1,4 @@
-use Rattle.std.proofs.Common.{◌≡◌, ◌<◌, ◌++◌, ◌∷◌, [], List, Some, None, length, refl, ap, sym, ◌∙◌, subst, slice_index}
+use Rattle.std.proofs.Common.{◌++◌, ◌∷◌, [], List, length, refl, sym, ◌∙◌, subst}
 use Rattle.level_terms.specs.Sound.{AllOlder}
 use Rattle.level_terms.specs.Reading.{read}
 use Rattle.level_terms.specs.declared.node.TermId.{TermId}

@@ -1,4 +1,4 @@
-use Rattle.std.proofs.Common.{◌≡◌, ◌<◌, ◌≤◌, [], refl, sym, arith}
+use Rattle.std.proofs.Common.{[], refl, arith}
 use Rattle.std.proofs.lemmas.Result.{IfOk-weaker}
 use Rattle.level_terms.specs.Reading.{read}
 use Rattle.level_terms.proofs.GrowthLemmas.{grows-refl}

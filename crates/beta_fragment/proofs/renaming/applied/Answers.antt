@@ -1,11 +1,11 @@
-use Rattle.std.proofs.Common.{◌≡◌, ◌<◌, ◌++◌, List, [], Some, map, length, ap, sym, ◌∙◌, subst, arith, length-append}
+use Rattle.std.proofs.Common.{List, [], Some, map, length, ap, sym, ◌∙◌, subst, arith, length-append}
 use Rattle.std.proofs.lemmas.Result.{IfOk-weaker}
 use Rattle.level_terms.specs.declared.node.Node.TheVariants.{App}
 use Rattle.level_terms.specs.declared.node.TermId.{TermId}
 use Rattle.level_terms.specs.Sound.{AllOlder}
 use Rattle.level_terms.proofs.GrowthLemmas.{grows-refl}
-use Rattle.beta_fragment.specs.Moves.{naming, value_of, IsAppOf}
-use Rattle.beta_fragment.proofs.MakeLemmas.{app-flattened, parts-there, older-append, head-none, head-other}
+use Rattle.beta_fragment.specs.Moves.{value_of, IsAppOf}
+use Rattle.beta_fragment.proofs.MakeLemmas.{app-flattened, parts-there, older-append, head-none}
 use Rattle.beta_fragment.proofs.renaming.applied.Goals as goal
 
 pub returns-in_err-all-clause-grows : goal.returns-in_err-all-clause-grows

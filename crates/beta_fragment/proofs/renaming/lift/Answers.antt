@@ -1,7 +1,7 @@
-use Rattle.std.proofs.Common.{◌≡◌, ℕ, ◌<◌, ◌≤◌, List, [], length, take, slice_index, ap, sym, ◌∙◌, subst, arith}
+use Rattle.std.proofs.Common.{◌≡◌, ℕ, ◌≤◌, List, [], length, take, slice_index, ap, sym, ◌∙◌, subst}
 use Rattle.std.proofs.lemmas.Result.{IfOk-weaker}
 use Rattle.level_terms.proofs.GrowthLemmas.{grows-refl}
-use Rattle.beta_fragment.specs.Moves.{naming, value_of, Moves, IsMove}
+use Rattle.beta_fragment.specs.Moves.{value_of, Moves, IsMove}
 use Rattle.beta_fragment.proofs.LiftLemmas.{names-moved, lift-move}
 use Rattle.beta_fragment.proofs.renaming.lift.Goals as goal
 

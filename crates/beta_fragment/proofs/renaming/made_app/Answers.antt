@@ -1,4 +1,4 @@
-use Rattle.std.proofs.Common.{◌≡◌, length, ap, arith}
+use Rattle.std.proofs.Common.{length, ap, arith}
 use Rattle.beta_fragment.proofs.MakeLemmas.{app-made}
 use Rattle.beta_fragment.proofs.renaming.made_app.Goals as goal
 

@@ -1,5 +1,5 @@
-use Rattle.std.proofs.Common.{◌≡◌, length, ap, arith}
-use Rattle.beta_fragment.proofs.MakeLemmas.{lam-made, newest}
+use Rattle.std.proofs.Common.{length, ap, arith}
+use Rattle.beta_fragment.proofs.MakeLemmas.{lam-made}
 use Rattle.beta_fragment.proofs.renaming.made_lam.Goals as goal
 
 pub returns-clause-lam : goal.returns-clause-lam

@@ -1,5 +1,4 @@
-use Rattle.std.proofs.Common.{◌≡◌, length, ap, arith}
-use Rattle.beta_fragment.proofs.MoveLemmas.{level-made, lam-moves}
+use Rattle.beta_fragment.proofs.MoveLemmas.{level-made}
 use Rattle.beta_fragment.proofs.renaming.made_level.Goals as goal
 
 pub returns-clause-level : goal.returns-clause-level

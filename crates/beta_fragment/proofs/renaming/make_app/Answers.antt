@@ -1,9 +1,9 @@
-use Rattle.std.proofs.Common.{◌≡◌, ℕ, suc, ◌<◌, ◌-◌, ◌++◌, ◌∷◌, [], List, length, map, take, drop, get_or, ap, ap₂, sym, ◌∙◌, subst, arith}
+use Rattle.std.proofs.Common.{◌≡◌, ◌-◌, ◌++◌, ◌∷◌, [], List, length, map, take, drop, ap, sym, ◌∙◌, subst}
 use Rattle.level_terms.specs.Sound.{AllOlder}
 use Rattle.level_terms.specs.declared.node.TermId.{TermId}
 use Rattle.level_terms.proofs.GrowthLemmas.{grows-refl}
 use Rattle.beta_fragment.specs.Work.{Steps}
-use Rattle.beta_fragment.specs.Moves.{naming, value_of, IsAppOf}
+use Rattle.beta_fragment.specs.Moves.{value_of, IsAppOf}
 use Rattle.beta_fragment.specs.declared.renaming.Task.TheVariants.{App}
 use Rattle.beta_fragment.proofs.MakeLemmas.{older-append, older-grown, older-front, older-back}
 use Rattle.beta_fragment.proofs.SplitLemmas.{split-args, args-slice, args-count}

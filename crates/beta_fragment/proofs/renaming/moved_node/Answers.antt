@@ -1,10 +1,10 @@
-use Rattle.std.proofs.Common.{◌≡◌, ℕ, ◌<◌, ◌≤◌, ◌++◌, ◌∷◌, [], List, length, map, reverse, ap, sym, ◌∙◌, subst, arith}
+use Rattle.std.proofs.Common.{ℕ, ◌<◌, ◌∷◌, [], List, length, map, reverse, sym, subst, arith}
 use Rattle.level_terms.specs.Sound.{AllOlder}
 use Rattle.level_terms.specs.declared.node.TermId.{TermId}
 use Rattle.level_terms.proofs.GrowthLemmas.{grows-refl, grows-trans}
 use Rattle.beta_fragment.specs.declared.renaming.Task.{Task}
 use Rattle.beta_fragment.specs.declared.renaming.Task.TheVariants.{Visit}
-use Rattle.beta_fragment.specs.Moves.{naming, value_of, Moves}
+use Rattle.beta_fragment.specs.Moves.{naming, value_of}
 use Rattle.beta_fragment.specs.Work.{Leads, IsLeading, work_size}
 use Rattle.beta_fragment.proofs.MakeLemmas.{older-last}
 use Rattle.beta_fragment.proofs.SplitLemmas.{empty-list}

@@ -1,4 +1,4 @@
-use Rattle.std.proofs.Common.{◌≡◌, length, [], reverse}
+use Rattle.std.proofs.Common.{length, [], reverse}
 use Rattle.level_terms.specs.Sound.{AllOlder}
 use Rattle.level_terms.specs.Growth.{Grows}
 use Rattle.beta_fragment.specs.Moves.{naming}

@@ -1,10 +1,10 @@
-use Rattle.std.proofs.Common.{◌≡◌, ◌+◌, ◌<◌, [], List, length, map, ap, sym, ◌∙◌, subst, arith, slice_index}
+use Rattle.std.proofs.Common.{◌≡◌, [], List, length, map, sym, ◌∙◌, subst, arith, slice_index}
 use Rattle.std.proofs.lemmas.List.{length-map}
 use Rattle.std.proofs.lemmas.Result.{IfOk-weaker}
 use Rattle.level_terms.specs.Sound.{IsHead}
 use Rattle.level_terms.specs.declared.node.TermId.{TermId}
 use Rattle.level_terms.proofs.GrowthLemmas.{grows-trans}
-use Rattle.beta_fragment.specs.Moves.{naming, Value, value_of, IsVarOf, IsAppOf, AreLevelsOf}
+use Rattle.beta_fragment.specs.Moves.{Value, value_of, IsVarOf, IsAppOf}
 use Rattle.beta_fragment.proofs.MakeLemmas.{value-kept, grown-length}
 use Rattle.beta_fragment.proofs.MoveLemmas.{node-after}
 use Rattle.beta_fragment.proofs.VarLemmas.{var-applied}

@@ -1,8 +1,5 @@
-use Rattle.std.proofs.Common.{◌≡◌, ◌<◌, ◌-◌, ◌++◌, ◌∷◌, [], suc, List, reverse, drop, length, sym, ap, ◌∙◌, arith, append-nil, append_assoc, get_or}
-use Rattle.std.proofs.lemmas.List.{reverse-append}
-use Rattle.beta_fragment.specs.declared.renaming.Task.{Task}
+use Rattle.std.proofs.Common.{◌≡◌, ◌<◌, ◌-◌, ◌++◌, ◌∷◌, suc, reverse, drop, length, sym, ap, ◌∙◌, arith, append-nil, get_or}
 use Rattle.beta_fragment.specs.declared.renaming.Task.TheVariants.{Visit}
-use Rattle.beta_fragment.specs.Moves.{naming}
 use Rattle.beta_fragment.specs.Work.{visits}
 use Rattle.beta_fragment.proofs.VisitLemmas.{drop_all, drop_one, push_step}
 use Rattle.beta_fragment.proofs.renaming.push_visits.Goals as goal

@@ -1,5 +1,4 @@
 use Rattle.std.proofs.Common.{◌≡◌, ◌≤◌, ◌++◌, length, reverse, drop}
-use Rattle.beta_fragment.specs.Moves.{naming}
 use Rattle.beta_fragment.specs.Work.{visits}
 use Rattle.beta_fragment.proofs.renaming.push_visits.Given as goal
 

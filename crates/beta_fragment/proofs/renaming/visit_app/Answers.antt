@@ -1,6 +1,4 @@
-use Rattle.std.proofs.Common.{◌≡◌, ◌<◌, ◌++◌, ◌∷◌, [], List, Some, length, reverse, refl, ap, sym, ◌∙◌, subst, append_assoc}
-use Rattle.std.proofs.lemmas.List.{reverse-append, reverse-reverse}
-use Rattle.level_terms.specs.declared.node.TermId.{TermId}
+use Rattle.std.proofs.Common.{◌≡◌, ◌++◌, ◌∷◌, [], List, length, reverse, refl, sym, subst}
 use Rattle.beta_fragment.specs.Moves.{naming}
 use Rattle.beta_fragment.specs.Work.{Steps, visits}
 use Rattle.beta_fragment.specs.declared.renaming.Task.{Task}

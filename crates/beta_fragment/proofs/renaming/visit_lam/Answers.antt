@@ -1,6 +1,4 @@
-use Rattle.std.proofs.Common.{◌≡◌, ◌<◌, ◌≤◌, ◌+◌, ◌-◌, ◌*◌, ◌++◌, ◌∷◌, [], List, Some, suc, length, reverse, min, refl, ap, ap₂, sym, ◌∙◌, subst, arith, append_assoc}
-use Rattle.level_terms.specs.declared.node.Node.TheVariants.{Lam as lam_node}
-use Rattle.level_terms.specs.declared.node.TermId.{TermId}
+use Rattle.std.proofs.Common.{◌≡◌, ◌+◌, ◌-◌, ◌++◌, ◌∷◌, [], List, min, refl, ap, ap₂, sym, ◌∙◌, subst, append_assoc}
 use Rattle.beta_fragment.specs.Moves.{naming}
 use Rattle.beta_fragment.specs.Work.{Steps}
 use Rattle.beta_fragment.specs.declared.renaming.Task.{Task}

@@ -1,4 +1,4 @@
-use Rattle.std.proofs.Common.{◌≡◌, ℕ, List, [], ◌∷◌, refl, sym, ap, ◌∙◌}
+use Rattle.std.proofs.Common.{ap}
 use Rattle.level_terms.specs.Graph.{Graph}
 use Rattle.beta_fragment.proofs.SampleLemmas.{IsSample, sample-made, constant-there, name-there, lam-there, redex-there}
 use Rattle.beta_fragment.proofs.tests.made_sample.Goals as goal

@@ -1,4 +1,4 @@
-use Rattle.std.proofs.Common.{◌≡◌, ◌+◌, ◌++◌, ◌<◌, ℕ, List, [], length, slice_index, ap, sym, ◌∙◌, arith}
+use Rattle.std.proofs.Common.{length, ap, sym, arith}
 use Rattle.beta_fragment.proofs.LevelListLemmas.{levels-length, own-name}
 use Rattle.beta_fragment.proofs.levels.Levels.own.Goals as goal
 

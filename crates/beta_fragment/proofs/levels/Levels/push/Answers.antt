@@ -1,4 +1,4 @@
-use Rattle.std.proofs.Common.{◌≡◌, ◌+◌, length, sym, ap, ◌∙◌, arith}
+use Rattle.std.proofs.Common.{length, ap, arith}
 use Rattle.beta_fragment.proofs.LevelListLemmas.{levels-length}
 use Rattle.beta_fragment.proofs.levels.Levels.push.Goals as goal
 

@@ -1,4 +1,4 @@
-use Rattle.std.proofs.Common.{◌≡◌, ◌+◌, ◌-◌, ◌++◌, ◌<◌, List, ℕ, [], length, take, sym, ap, ◌∙◌, arith, subst}
+use Rattle.std.proofs.Common.{◌++◌, ◌<◌, List, ℕ, take, ap, ◌∙◌, arith}
 use Rattle.std.specs.List.{range_with_len}
 use Rattle.beta_fragment.proofs.LevelListLemmas.{fewer-own, fewer-more}
 use Rattle.beta_fragment.proofs.levels.Levels.truncate.Goals as goal
