@@ -1,0 +1,35 @@
+-- What unification of two nodes answers.
+use Rattle.std.specs.Prelude.{◌≡◌, ℕ, ◌<◌, Bool, List, [], ◌∷◌, length}
+use Rattle.level_terms.specs.Graph.{Graph}
+use Rattle.level_terms.specs.Reading.{read}
+use Rattle.ref_terms.specs.terms.Term.{Term}
+use Rattle.ref_terms.specs.terms.Instance.{inst}
+use Rattle.ref_terms.specs.unification.Problem.{Equation, Problem, Binding, Solved, Clashed, Faulted, UnifyFault}
+use Rattle.ref_terms.specs.unification.Run.{Unifies}
+use Rattle.beta_fragment.specs.Names.{names}
+
+-- the equation of two nodes in a heap: the next variable is the heap's
+abbrev pub problem_of : Graph → (s t depth : ℕ) → Problem
+problem_of g s t depth = record { next_var = length g.depths; equations = record { names = depth; left = read g s names; right = read g t names } ∷ []; bindings = [] }
+
+-- a term under bindings, of which the newest stands first
+abbrev pub bound : List Binding → Term → Term
+bound [] t = t
+bound (b ∷ older) t = inst b.variable b.value (bound older t)
+
+-- what each node of the old heap means is what it meant, under the bindings; the variables are those that the rules make
+pub record ReadsUnder (old new : Graph) (p : Problem) : Type 0 where
+  pub readings : (t : ℕ) (env : ℕ → Term) → t < length old.nodes → read new t env ≡ bound p.bindings (read old t env)
+  pub variables : length new.depths ≡ p.next_var
+
+-- the rules come to a solved problem, whose bindings the heap has
+abbrev pub AnswersTrue : (mark : ℕ) (old new : Graph) → Problem → Type 0
+AnswersTrue m old new p = (q : Problem) × Unifies m p (Solved q) × ReadsUnder old new q
+
+-- they come to a clash
+abbrev pub AnswersFalse : (mark : ℕ) → Problem → Type 0
+AnswersFalse m p = (knot : Bool) × Unifies m p (Clashed knot)
+
+-- they come to this fault
+abbrev pub AnswersFault : (mark : ℕ) → Problem → UnifyFault → Type 0
+AnswersFault m p f = Unifies m p (Faulted f)
