@@ -1,5 +1,5 @@
 -- The names of a spine.
-use Rattle.std.proofs.Common.{◌≡◌, ℕ, zero, suc, ◌<◌, ◌≤◌, ◌++◌, List, [], ◌∷◌, length, map, reverse, cond, nat_eq, nat_lt, eqb-true, Bool, true, false, ◌||◌, Option, Some, None, option_map, IfSome, refl, sym, ap, ap₂, ◌∙◌, arith, subst, slice_index, ne_eqb}
+use Rattle.std.proofs.Common.{◌≡◌, ℕ, zero, suc, ◌<◌, ◌≤◌, ◌++◌, List, [], ◌∷◌, length, map, reverse, cond, nat_eq, nat_lt, eqb-true, Bool, true, false, ◌||◌, Option, Some, None, option_map, IfSome, refl, sym, ap, ap₂, ◌∙◌, arith, subst, slice_index, ne_eqb, get_or, drop, ◌-◌}
 use Rattle.std.specs.List.{list_any}
 use Rattle.std.proofs.lemmas.List.{reverse-append, map-append}
 use Rattle.std.proofs.lemmas.List.Folds.{list_any-append}
@@ -21,7 +21,8 @@ use Rattle.beta_fragment.specs.declared.answer.RigidHead.TheVariants.{Con, Int, 
 use Rattle.beta_fragment.specs.declared.answer.Whnf.{Whnf}
 use Rattle.beta_fragment.specs.declared.answer.Whnf.TheVariants.{Lam, Rigid, Flex, Redex}
 use Rattle.beta_fragment.specs.Names.{names, AllBelow}
-use Rattle.beta_fragment.specs.HeadForm.{IsHeadForm, IsAbstraction, FirstUnready, all_read, rigid_head}
+use Rattle.beta_fragment.specs.HeadForm.{IsHeadForm, IsAbstraction, AllValidAt, all_read, rigid_head}
+use Rattle.beta_fragment.proofs.HeadLemmas.{drop-whole}
 use Rattle.beta_fragment.proofs.QuotableLemmas.{nameless-valid}
 use Rattle.pattern_unify.specs.SpineNames.{bare_level, form_name}
 
@@ -141,11 +142,37 @@ below-reverse ns ms depth e w = subst (λ (ks : List ℕ). AllBelow ks depth) (s
     turned [] w = w
     turned (k ∷ ks) w = below-put (reverse ks) (reverse (k ∷ ks)) k depth (reverse-append (k ∷ []) ks) (w 0 (omega arith)) (turned ks (λ j l. w (suc j) (omega (arith, l))))
 
+-- the arguments of a spine
+pub arg-valid : (g : Graph) (d : ℕ) (ts : List TermId) (i : ℕ) (z : TermId) → i < length ts → AllValidAt g ts d → IsValid g (get_or ts i z).index d
+arg-valid g d [] i z h v = absurd (omega (arith, h))
+arg-valid g d (t ∷ ts) zero z h v = v.0
+arg-valid g d (t ∷ ts) (suc i) z h v = arg-valid g d ts i z (omega (arith, h)) v.1
+
+args-split : (ts : List TermId) (i : ℕ) (z : TermId) → i < length ts → drop i ts ≡ get_or ts i z ∷ drop (suc i) ts
+args-split [] i z h = absurd (omega (arith, h))
+args-split (t ∷ ts) zero z h = refl
+args-split (t ∷ ts) (suc i) z h = args-split ts i z (omega (arith, h))
+
+-- one more argument before those whose names are known
+pub pattern-more : (g : Graph) (ts : List TermId) (i : ℕ) (z : TermId) (ns : List ℕ) (u : Term) (o : Option (List SpineName)) → 0 < i → i ≤ length ts → pattern_of (all_read g (drop i ts)) ≡ Some (map of_name (reverse ns)) →
+    u ≡ read g (get_or ts (i - 1) z).index names → o ≡ add_distinct (spine_name u) (Some (map of_name (reverse ns))) → o ≡ pattern_of (all_read g (drop (i - 1) ts))
+pattern-more g ts i z ns u o l h e r k =
+    let up : suc (i - 1) ≡ i = omega (arith, l) in
+    k ∙ ap₂ (λ (v : Term) (p : Option (List SpineName)). add_distinct (spine_name v) p) r (sym e)
+    ∙ ap (λ (j : ℕ). add_distinct (spine_name (read g (get_or ts (i - 1) z).index names)) (pattern_of (all_read g (drop j ts)))) (sym up)
+    ∙ ap (λ (us : List TermId). pattern_of (all_read g us)) (sym (args-split ts (i - 1) z (omega (arith, l, h))))
+
 -- where the back of a spine is no pattern, the spine is none
-pub pattern-back : (xs ys : List Term) → pattern_of ys ≡ None → pattern_of (xs ++ ys) ≡ None
-pattern-back [] ys h = h
-pattern-back (x ∷ xs) ys h = ap (add_distinct (spine_name x)) (pattern-back xs ys h) ∙ nothing (spine_name x)
-  where
-    nothing : (o : Option SpineName) → add_distinct o None ≡ None
-    nothing None = refl
-    nothing (Some n) = refl
+no_pattern-more : (o : Option SpineName) → add_distinct o None ≡ None
+no_pattern-more None = refl
+no_pattern-more (Some n) = refl
+
+pub pattern-front : (g : Graph) (ts : List TermId) (i : ℕ) → pattern_of (all_read g (drop i ts)) ≡ None → pattern_of (all_read g ts) ≡ None
+pattern-front g [] zero h = h
+pattern-front g [] (suc i) h = h
+pattern-front g (t ∷ ts) zero h = h
+pattern-front g (t ∷ ts) (suc i) h =
+    ap (add_distinct (spine_name (read g t.index names))) (pattern-front g ts i h) ∙ no_pattern-more (spine_name (read g t.index names))
+
+pub pattern-end : (g : Graph) (ts : List TermId) (i : ℕ) → i ≡ length ts → pattern_of (all_read g (drop i ts)) ≡ Some []
+pattern-end g ts i e = ap (λ (j : ℕ). pattern_of (all_read g (drop j ts))) e ∙ ap (λ (us : List TermId). pattern_of (all_read g us)) (drop-whole ts)
