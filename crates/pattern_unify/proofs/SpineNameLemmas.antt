@@ -1,5 +1,5 @@
 -- The names of a spine.
-use Rattle.std.proofs.Common.{◌≡◌, ℕ, zero, suc, ◌<◌, ◌≤◌, ◌++◌, List, [], ◌∷◌, length, map, reverse, cond, nat_eq, nat_lt, eqb-true, Bool, true, false, ◌||◌, Option, Some, None, option_map, IfSome, refl, sym, ap, ap₂, ◌∙◌, arith, subst, slice_index, ne_eqb, get_or, drop, ◌-◌}
+use Rattle.std.proofs.Common.{◌≡◌, ℕ, zero, suc, ◌<◌, ◌≤◌, ◌++◌, List, [], ◌∷◌, length, map, reverse, cond, nat_eq, nat_lt, eqb-true, Bool, true, false, ◌||◌, Option, Some, None, option_map, IfSome, refl, sym, ap, ap₂, ◌∙◌, arith, subst, ne_eqb, get_or, drop, ◌-◌}
 use Rattle.std.specs.List.{list_any}
 use Rattle.std.proofs.lemmas.List.{reverse-append, map-append}
 use Rattle.std.proofs.lemmas.List.Folds.{list_any-append}
@@ -11,7 +11,6 @@ use Rattle.ref_terms.specs.terms.Term as term
 use Rattle.ref_terms.specs.terms.Term.{Term, Head, At}
 use Rattle.ref_terms.specs.terms.Index.{sub, first}
 use Rattle.ref_terms.specs.terms.Ready.{ready}
-use Rattle.ref_terms.specs.terms.Apply.{apply}
 use Rattle.ref_terms.specs.terms.Occurs.{has_name}
 use Rattle.ref_terms.specs.unification.Spine.{apply_all}
 use Rattle.ref_terms.specs.unification.Pattern.{SpineName, of_name, of_bound, same_name, spine_name, add_distinct, pattern_of}
@@ -35,28 +34,31 @@ app-no_name (x ∷ xs) f a = app-no_name xs (term.App f a) x
 head-no_name : (h : Head) (x : Term) (xs : List Term) → spine_name (apply_all (At h) (x ∷ xs)) ≡ None
 head-no_name h x xs = app-no_name xs (At h) x
 
+-- nor is an abstraction
 lam-no_name : (u : Term) → IsAbstraction u → spine_name u ≡ None
 lam-no_name (term.Lam b) w = refl
 lam-no_name (At h) w = absurd w
 lam-no_name (term.App f a) w = absurd w
 
--- nor is a redex
+-- nor one before an argument that isn't ready
 redex-no_name : (u x : Term) (xs : List Term) → IsAbstraction u → ready x ≡ false → spine_name (apply_all u (x ∷ xs)) ≡ None
 redex-no_name (term.Lam b) x xs w r =
     ap (λ (r : Bool). spine_name (apply_all (cond r (sub (first x) b) (term.App (term.Lam b) x)) xs)) r ∙ app-no_name xs (term.Lam b) x
 redex-no_name (At h) x xs w r = absurd w
 redex-no_name (term.App f a) x xs w r = absurd w
 
-rigid-no_name : (h : RigidHead) (g : Graph) (ts : List TermId) → option_map of_name (bare_level h ts) ≡ spine_name (apply_all (At (rigid_head h)) (all_read g ts))
-rigid-no_name (Level l) g [] = refl
-rigid-no_name (Level l) g (a ∷ ts) = sym (head-no_name (term.Name l) (read g a.index names) (all_read g ts))
-rigid-no_name (Con c) g [] = refl
-rigid-no_name (Con c) g (a ∷ ts) = sym (head-no_name (term.Con c.0) (read g a.index names) (all_read g ts))
-rigid-no_name (Int n) g [] = refl
-rigid-no_name (Int n) g (a ∷ ts) = sym (head-no_name (term.Int n) (read g a.index names) (all_read g ts))
-rigid-no_name (Str s) g [] = refl
-rigid-no_name (Str s) g (a ∷ ts) = sym (head-no_name (term.Str s.0) (read g a.index names) (all_read g ts))
+-- a rigid head is a name where it is a level without arguments
+rigid-name : (h : RigidHead) (g : Graph) (ts : List TermId) → option_map of_name (bare_level h ts) ≡ spine_name (apply_all (At (rigid_head h)) (all_read g ts))
+rigid-name (Level l) g [] = refl
+rigid-name (Level l) g (a ∷ ts) = sym (head-no_name (term.Name l) (read g a.index names) (all_read g ts))
+rigid-name (Con c) g [] = refl
+rigid-name (Con c) g (a ∷ ts) = sym (head-no_name (term.Con c.0) (read g a.index names) (all_read g ts))
+rigid-name (Int n) g [] = refl
+rigid-name (Int n) g (a ∷ ts) = sym (head-no_name (term.Int n) (read g a.index names) (all_read g ts))
+rigid-name (Str s) g [] = refl
+rigid-name (Str s) g (a ∷ ts) = sym (head-no_name (term.Str s.0) (read g a.index names) (all_read g ts))
 
+-- a variable is none
 variable-no_name : (v : ℕ) (g : Graph) (ts : List TermId) → spine_name (apply_all (At (term.Var v)) (all_read g ts)) ≡ None
 variable-no_name v g [] = refl
 variable-no_name v g (a ∷ ts) = head-no_name (term.Var v) (read g a.index names) (all_read g ts)
@@ -64,12 +66,12 @@ variable-no_name v g (a ∷ ts) = head-no_name (term.Var v) (read g a.index name
 -- the name that a term is, by its form
 pub name-from_form : (g : Graph) (depth : ℕ) (u : Term) (w : Whnf) → IsHeadForm g depth u w → option_map of_name (form_name w) ≡ spine_name u
 name-from_form g depth u (Lam t) f = sym (ap spine_name f.1 ∙ lam-no_name (read g t.index names) f.0.reads)
-name-from_form g depth u (Rigid h ts) f = rigid-no_name h g ts ∙ sym (ap spine_name f.1)
+name-from_form g depth u (Rigid h ts) f = rigid-name h g ts ∙ sym (ap spine_name f.1)
 name-from_form g depth u (Flex v ts) f = sym (ap spine_name f.3 ∙ variable-no_name v.index g ts)
 name-from_form g depth u (Redex t []) f = absurd f.1
 name-from_form g depth u (Redex t (a ∷ ts)) f = sym (ap spine_name f.3 ∙ redex-no_name (read g t.index names) (read g a.index names) (all_read g ts) f.0.reads f.1)
 
--- a name that a valid node reads as lies below the depth
+-- a term that is a name has it
 name-stands : (u : Term) (n : ℕ) → Some (of_name n) ≡ spine_name u → has_name n u ≡ true
 name-stands (At (term.Name m)) n e = let q : n ≡ m = cc in ap (nat_eq n) (sym q) ∙ nat_eq_self n
 name-stands (At (term.Bound i)) n e = absurd (let q : Some (of_name n) ≡ Some (of_bound i) = e in cc)
@@ -80,19 +82,21 @@ name-stands (At (term.Var v)) n e = absurd (let q : Some (of_name n) ≡ None = 
 name-stands (term.Lam b) n e = absurd (let q : Some (of_name n) ≡ None = e in cc)
 name-stands (term.App f a) n e = absurd (let q : Some (of_name n) ≡ None = e in cc)
 
-low-or_not : (n depth : ℕ) → (depth ≤ n → ⊥) → n < depth
-low-or_not n depth h = go (nat_lt n depth) refl
+-- what isn't from the depth on lies below it
+below-unless : (n depth : ℕ) → (depth ≤ n → ⊥) → n < depth
+below-unless n depth h = go (nat_lt n depth) refl
   where
     go : (b : Bool) → nat_lt n depth ≡ b → n < depth
     go true e = grind (arith, e)
     go false e = absurd (h (grind (arith, e)))
 
+-- a name that a valid node reads as lies below the depth
 pub name-below : (g : Graph) (t depth : ℕ) (o : Option ℕ) → IsValid g t depth → option_map of_name o ≡ spine_name (read g t names) → IfSome o (λ n. n < depth)
 name-below g t depth None v e = tt
-name-below g t depth (Some n) v e = low-or_not n depth (λ h.
+name-below g t depth (Some n) v e = below-unless n depth (λ h.
     let k : false ≡ true = sym (nameless-valid n g t depth names v (λ i l. ne_eqb n i (omega (arith, h, l)))) ∙ name-stands (read g t names) n e in cc)
 
--- whether a name is among those that stand in the reverse order
+-- tests the other way round
 nat_eq-turned : (a b : ℕ) → nat_eq a b ≡ nat_eq b a
 nat_eq-turned a b = go (nat_eq a b) refl (nat_eq b a) refl
   where
@@ -107,6 +111,7 @@ or-turned true false = refl
 or-turned false true = refl
 or-turned false false = refl
 
+-- whether a name is among those that stand in the reverse order
 pub among-reverse : (n : ℕ) (ns : List ℕ) → list_any (same_name (of_name n)) (map of_name (reverse ns)) ≡ list_any (λ m. nat_eq m n) ns
 among-reverse n [] = refl
 among-reverse n (m ∷ ns) =
@@ -116,6 +121,7 @@ among-reverse n (m ∷ ns) =
     ∙ ap₂ (λ (x y : Bool). x || (y || false)) (among-reverse n ns) (nat_eq-turned n m)
     ∙ or-turned (list_any (λ k. nat_eq k n) ns) (nat_eq m n)
 
+-- a name that isn't there is put, and one that is there isn't
 pub name-put : (n : ℕ) (ns ms : List ℕ) → ms ≡ ns ++ n ∷ [] → list_any (λ m. nat_eq m n) ns ≡ false → Some (map of_name (reverse ms)) ≡ add_distinct (Some (of_name n)) (Some (map of_name (reverse ns)))
 name-put n ns ms e h =
     ap (λ (ks : List ℕ). Some (map of_name (reverse ks))) e
@@ -135,6 +141,7 @@ below-put ns ms n depth e h w = subst (λ (ks : List ℕ). AllBelow ks depth) (s
     put (x ∷ ks) w zero k = w 0 (omega arith)
     put (x ∷ ks) w (suc i) k = put ks (λ j l. w (suc j) (omega (arith, l))) i (omega (arith, k))
 
+-- names below a depth, the other way round
 pub below-reverse : (ns ms : List ℕ) (depth : ℕ) → ms ≡ reverse ns → AllBelow ns depth → AllBelow ms depth
 below-reverse ns ms depth e w = subst (λ (ks : List ℕ). AllBelow ks depth) (sym e) (turned ns w)
   where
@@ -174,5 +181,6 @@ pattern-front g (t ∷ ts) zero h = h
 pattern-front g (t ∷ ts) (suc i) h =
     ap (add_distinct (spine_name (read g t.index names))) (pattern-front g ts i h) ∙ no_pattern-more (spine_name (read g t.index names))
 
+-- behind the last argument there are no names
 pub pattern-end : (g : Graph) (ts : List TermId) (i : ℕ) → i ≡ length ts → pattern_of (all_read g (drop i ts)) ≡ Some []
 pattern-end g ts i e = ap (λ (j : ℕ). pattern_of (all_read g (drop j ts))) e ∙ ap (λ (us : List TermId). pattern_of (all_read g us)) (drop-whole ts)

@@ -1,6 +1,6 @@
 //! The names of a spine.
 
-ghost use Rattle.std.specs.Prelude.{◌≡◌, ◌<◌, [], map, option_map, length, slice_index, cond, reverse, IfOk, IfSome, Some, None};
+ghost use Rattle.std.specs.Prelude.{◌≡◌, ◌<◌, [], map, option_map, cond, reverse, IfOk, IfSome, Some, None};
 ghost use Rattle.level_terms.specs.Growth.{Grows};
 ghost use Rattle.level_terms.specs.Reading.{read};
 ghost use Rattle.level_terms.specs.Valid.{IsValid};
@@ -94,13 +94,13 @@ fn level_in(head: RigidHead, args: &[TermId]) -> Option<usize>
     ensures { result ≡ bare_level head args.now }
 {
     match head {
-        RigidHead::Level(l) => first_alone(l, args),
+        RigidHead::Level(l) => level_alone(l, args),
         _ => None,
     }
 }
 
 /// The level, where no arguments follow.
-fn first_alone(level: usize, args: &[TermId]) -> Option<usize>
+fn level_alone(level: usize, args: &[TermId]) -> Option<usize>
     ensures { result ≡ bare_level (RigidHead.Level level) args.now }
 {
     if args.is_empty() { Some(level) } else { None }

@@ -1,4 +1,4 @@
-use Rattle.std.proofs.Common.{◌≡◌, ◌∙◌, sym, ap, ℕ, List, Option, Some, None, map, reverse, option_map, nat_eq, true, false}
+use Rattle.std.proofs.Common.{◌≡◌, ◌∙◌, sym, ap, Option, Some, map, reverse, option_map, nat_eq, true, false}
 use Rattle.std.specs.List.{list_any}
 use Rattle.level_terms.specs.Reading.{read}
 use Rattle.ref_terms.specs.unification.Pattern.{SpineName, spine_name, add_distinct, of_name}

@@ -1,12 +1,11 @@
-use Rattle.std.proofs.Common.{◌≡◌, ◌∙◌, sym, ap, subst, ℕ, List, [], Option, Some, None, map, reverse, cond, true, false, ◌-◌, arith, get_or, length, drop, refl}
+use Rattle.std.proofs.Common.{◌≡◌, ◌∙◌, sym, ap, ℕ, List, [], Some, None, map, reverse, cond, true, false, ◌-◌, arith, get_or, length, drop, refl}
 use Rattle.level_terms.specs.declared.node.TermId.{TermId}
 use Rattle.level_terms.specs.Reading.{read}
 use Rattle.level_terms.proofs.GrowthLemmas.{grows-refl, grows-trans}
 use Rattle.level_terms.proofs.ValidLemmas.{growth_keeps_valid}
-use Rattle.ref_terms.specs.terms.Term.{Term}
-use Rattle.ref_terms.specs.unification.Pattern.{SpineName, of_name, pattern_of}
+use Rattle.ref_terms.specs.unification.Pattern.{of_name, pattern_of}
 use Rattle.beta_fragment.specs.HeadForm.{all_read}
-use Rattle.beta_fragment.specs.Names.{names, AllBelow}
+use Rattle.beta_fragment.specs.Names.{names}
 use Rattle.beta_fragment.proofs.ReadLemmas.{valid-below, grown-reads}
 use Rattle.pattern_unify.proofs.SpineNameLemmas.{arg-valid, pattern-more, pattern-front, pattern-end}
 use Rattle.pattern_unify.proofs.spine.pattern_names.Goals as goal
@@ -32,7 +31,6 @@ returns-in_err-added-clause-grows c = grows-trans c.args.heap.now c.loop-i.heap 
 pub returns-then-not-added-clause-pattern : goal.returns-then-not-added-clause-pattern
 returns-then-not-added-clause-pattern c =
     let within = c.loop-i.invariant.within in
-    let i = c.loop-i.i in
     let t : TermId = get_or c.args.args.now (c.loop-i.i - 1) (record { index = 0 }) in
     let valid = arg-valid c.args.heap.now c.args.depth c.args.args.now (c.loop-i.i - 1) (record { index = 0 }) (omega (arith, within, c.loop-i-test.true)) c.requires in
     let there = valid-below c.args.heap.now t.index c.args.depth valid in
@@ -40,7 +38,7 @@ returns-then-not-added-clause-pattern c =
     let reads : read c.loop-i.heap t.index names ≡ read c.args.heap.now t.index names = ap (λ r. r names) (grown-reads c.args.heap.now c.loop-i.heap c.is_sound.ensures c.loop-i.invariant.grows t.index there) in
     let none : None ≡ pattern_of (all_read c.args.heap.now (drop (c.loop-i.i - 1) c.args.args.now)) =
     pattern-more c.args.heap.now c.args.args.now c.loop-i.i (record { index = 0 }) c.loop-i.ns.items (read c.loop-i.heap t.index names) None c.loop-i-test.true within c.loop-i.invariant.pattern reads
-        (sym (ap (λ b. cond b (Some (map of_name (reverse c.add_name.new.ns.items))) None) refused) ∙ c.in_ok-added.ensures.added) in
+    (sym (ap (λ b. cond b (Some (map of_name (reverse c.add_name.new.ns.items))) None) refused) ∙ c.in_ok-added.ensures.added) in
     sym (pattern-front c.args.heap.now c.args.args.now (c.loop-i.i - 1) (sym none))
 
 pub returns-then-not-added-clause-grows : goal.returns-then-not-added-clause-grows
