@@ -1,0 +1,3 @@
+pub mod KeepTerms
+pub mod KeepNodes
+pub mod KeepValue

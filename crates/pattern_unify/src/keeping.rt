@@ -1,12 +1,13 @@
 //! A variable keeps some positions of its spine: its value is a new variable over these.
 
-ghost use Rattle.std.specs.Prelude.{◌≡◌, ◌≤◌, ◌<◌, suc, length, slice_index, IfOk, OnOk};
+ghost use Rattle.std.specs.Prelude.{◌≡◌, ◌≤◌, ◌<◌, ◌-◌, [], length, slice_index, IfOk, OnOk};
 ghost use Rattle.level_terms.specs.Growth.{Grows};
 ghost use Rattle.ref_terms.specs.unification.Closing.{keeping};
 ghost use Rattle.beta_fragment.specs.Names.{AllBelow};
 ghost use Rattle.pattern_unify.specs.Bound.{IsOpen, IsBound};
+ghost use Rattle.pattern_unify.specs.Keeping.{AreLevels, IsVarOver, AreAbstractions};
 
-use level_terms::{Change, Heap, VarId};
+use level_terms::{Change, Heap, TermId, VarId};
 use std::alloc::{AllocError, Global};
 use trail::Trail;
 
@@ -31,5 +32,75 @@ pub(crate) fn keep_over(
     ensures variables { OnOk result (length heap.new.depths ≡ length heap.old.depths) }
     ensures grows { Grows heap.old heap.new trail.old.entries trail.new.entries }
 {
-    Err(AllocError)
+    let depth = heap.var_depth(v);
+    heap.is_sound();
+    let body = var_over(alloc, heap, other, kept)?;
+    let value = abstracted(heap, depth, arity, body)?;
+    trail.reserve(1)?;
+    heap.is_sound();
+    heap.assign(trail, v, value);
+    Ok(())
+}
+
+/// The node of a variable over levels, without an application where there are none.
+fn var_over(
+    alloc: Global,
+    heap: &mut Heap,
+    x: VarId,
+    levels: &[usize],
+) -> Result<TermId, AllocError>
+    requires { x.index < length heap.old.depths }
+    ensures over { IfOk result (λ r. IsVarOver heap.new r.index x levels.now) }
+    ensures there { IfOk result (λ r. r.index < length heap.new.nodes) }
+    ensures variables { OnOk result (heap.new.depths ≡ heap.old.depths) }
+    ensures grows { Grows heap.old heap.new [] [] }
+{
+    let head = heap.var(x)?;
+    if levels.is_empty() {
+        return Ok(head);
+    }
+    let args = level_nodes(alloc, heap, levels)?;
+    let node = heap.app(head, args.as_slice())?;
+    Ok(node)
+}
+
+/// The nodes of levels.
+fn level_nodes(
+    alloc: Global,
+    heap: &mut Heap,
+    levels: &[usize],
+) -> Result<Vec<TermId>, AllocError>
+    ensures levels { IfOk result (λ ts. AreLevels heap.new ts.items levels.now) }
+    ensures variables { OnOk result (heap.new.depths ≡ heap.old.depths) }
+    ensures grows { Grows heap.old heap.new [] [] }
+{
+    let mut nodes = Vec::new(alloc);
+    for level in levels {
+        let node = heap.level(*level)?;
+        nodes.push(node)?;
+    }
+    Ok(nodes)
+}
+
+/// The node abstracted over the levels from the first depth up to the second.
+fn abstracted(
+    heap: &mut Heap,
+    depth: usize,
+    to: usize,
+    body: TermId,
+) -> Result<TermId, AllocError>
+    requires body { body.index < length heap.old.nodes }
+    requires low { depth ≤ to }
+    ensures abstractions { IfOk result (λ r. AreAbstractions heap.new (to - depth) depth r.index body.index) }
+    ensures there { IfOk result (λ r. r.index < length heap.new.nodes) }
+    ensures variables { OnOk result (heap.new.depths ≡ heap.old.depths) }
+    ensures grows { Grows heap.old heap.new [] [] }
+{
+    let mut level = to;
+    let mut node = body;
+    while level > depth {
+        level -= 1;
+        node = heap.lam(level, node)?;
+    }
+    Ok(node)
 }
