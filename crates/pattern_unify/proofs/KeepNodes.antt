@@ -1,5 +1,5 @@
 -- What the nodes of a variable over levels mean.
-use Rattle.std.proofs.Common.{◌≡◌, ℕ, zero, suc, ◌<◌, ◌≤◌, ◌+◌, ◌&&◌, ◌||◌, ◌++◌, List, [], ◌∷◌, length, map, cond, nat_eq, nat_lt, Bool, true, false, Option, Some, None, slice_index, refl, sym, ap, ap₂, ◌∙◌, arith, subst}
+use Rattle.std.proofs.Common.{◌≡◌, ℕ, zero, suc, ◌<◌, ◌+◌, ◌||◌, ◌++◌, List, [], ◌∷◌, length, map, cond, nat_eq, nat_lt, Bool, true, false, Some, None, slice_index, refl, sym, ap, ap₂, ◌∙◌, arith, subst}
 use Rattle.std.specs.List.{list_all}
 use Rattle.level_terms.specs.declared.node.Node.{Node}
 use Rattle.level_terms.specs.declared.node.Node.TheVariants.{Level, Lam, App, Var}
@@ -10,7 +10,7 @@ use Rattle.level_terms.specs.Laws.{ArePlaces}
 use Rattle.level_terms.specs.Sound.{IsSound, AllOlder}
 use Rattle.level_terms.specs.Growth.{Grows}
 use Rattle.level_terms.specs.Valid.{valid, IsValid}
-use Rattle.level_terms.specs.Reached.{Tree, Leaf, Hole, One, Two, plant, reaches, grown, layer_tree, node_tree, put, trees_of, tree, IsUnreached}
+use Rattle.level_terms.specs.Reached.{Tree, Leaf, Hole, plant, reaches, grown, layer_tree, node_tree, put, trees_of, tree, IsUnreached}
 use Rattle.level_terms.specs.Reading.{read, enter, levels, variable_reads}
 use Rattle.level_terms.proofs.FoldLemmas.{over-at, names_older, node_at-below}
 use Rattle.level_terms.proofs.NodeLemmas.{nodes_read}

@@ -1,11 +1,10 @@
 -- Abstractions over levels, and what closing over names makes.
-use Rattle.std.proofs.Common.{◌≡◌, ℕ, zero, suc, ◌<◌, ◌+◌, ◌-◌, List, [], ◌∷◌, length, map, cond, nat_eq, Bool, true, false, slice_index, refl, sym, ap, ap₂, ◌∙◌, arith, subst}
+use Rattle.std.proofs.Common.{◌≡◌, ℕ, zero, suc, ◌<◌, ◌+◌, List, [], ◌∷◌, map, cond, nat_eq, Bool, true, false, slice_index, refl, sym, ap, ap₂, ◌∙◌, arith}
 use mathlib.Core.Path.{fun_ext}
-use Rattle.level_terms.specs.declared.node.Node.{Node}
 use Rattle.level_terms.specs.Graph.{Graph, Assigned}
 use Rattle.level_terms.specs.Laws.{ArePlaces}
 use Rattle.level_terms.specs.Sound.{IsSound}
-use Rattle.level_terms.specs.Reading.{read, enter, closed_term, node_term, values_of, assigned_term}
+use Rattle.level_terms.specs.Reading.{read, enter, closed_term, values_of, assigned_term}
 use Rattle.level_terms.proofs.LocalLemmas.{no_index-values, step_down}
 use Rattle.level_terms.proofs.CoverLemmas.{inst_all-lam, places-enter}
 use Rattle.level_terms.proofs.ReadingLemmas.{built-value}
@@ -13,7 +12,6 @@ use Rattle.ref_terms.specs.terms.Term.{Term, At, Head, Name, Bound, Var}
 use Rattle.ref_terms.specs.terms.Index.{shift, next}
 use Rattle.ref_terms.specs.terms.Eta.{lam}
 use Rattle.ref_terms.specs.terms.Apply.{apply, fill, below}
-use Rattle.ref_terms.specs.terms.Ready.{ready}
 use Rattle.ref_terms.specs.terms.Built.{IsBuilt}
 use Rattle.ref_terms.specs.terms.Instance.{inst_all}
 use Rattle.ref_terms.specs.laws.TermLaws.{AllBuilt, KeepsReady}
@@ -23,7 +21,7 @@ use Rattle.ref_terms.specs.lemmas.NameLemmas.{closing_keeps, closing_built}
 use Rattle.ref_terms.specs.lemmas.OccursLemmas.{fill_at}
 use Rattle.ref_terms.specs.lemmas.ReadyFacts.{ready-fill}
 use Rattle.ref_terms.specs.unification.Spine.{apply_all}
-use Rattle.ref_terms.specs.unification.Closing.{closing, close, close_all, up_from, keeping}
+use Rattle.ref_terms.specs.unification.Closing.{closing, close_all, up_from, keeping}
 use Rattle.beta_fragment.specs.Names.{names, AllBelow}
 
 -- a reading abstracted over so many levels from a depth on

@@ -1,7 +1,7 @@
 -- The value by which a variable keeps some positions.
-use Rattle.std.proofs.Common.{◌≡◌, ℕ, ◌<◌, ◌≤◌, ◌+◌, ◌-◌, List, [], ◌∷◌, length, nat_eq, false, None, slice_index, sym, ap, ap₂, ◌∙◌, arith, subst, ne_eqb}
+use Rattle.std.proofs.Common.{◌≡◌, ℕ, ◌<◌, ◌≤◌, ◌+◌, ◌-◌, List, [], ◌∷◌, None, slice_index, sym, ap, ap₂, ◌∙◌, arith, ne_eqb}
 use Rattle.level_terms.specs.declared.node.VarId.{VarId}
-use Rattle.level_terms.specs.Graph.{Graph, Assigned, value_in}
+use Rattle.level_terms.specs.Graph.{Graph, value_in}
 use Rattle.level_terms.specs.Sound.{IsSound}
 use Rattle.level_terms.specs.Growth.{Grows}
 use Rattle.level_terms.specs.Valid.{IsValid}
@@ -9,7 +9,7 @@ use Rattle.level_terms.specs.Reached.{IsUnreached}
 use Rattle.level_terms.specs.Reading.{read, assigned_term}
 use Rattle.level_terms.proofs.ReadingLemmas.{assignment_instantiates}
 use Rattle.level_terms.proofs.ValidLemmas.{growth_keeps_readings}
-use Rattle.ref_terms.specs.terms.Term.{Term, At, Bound}
+use Rattle.ref_terms.specs.terms.Term.{At, Bound}
 use Rattle.ref_terms.specs.terms.Instance.{inst}
 use Rattle.ref_terms.specs.unification.Closing.{keeping}
 use Rattle.beta_fragment.specs.Names.{AllBelow}

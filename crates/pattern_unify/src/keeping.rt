@@ -65,11 +65,7 @@ fn var_over(
 }
 
 /// The nodes of levels.
-fn level_nodes(
-    alloc: Global,
-    heap: &mut Heap,
-    levels: &[usize],
-) -> Result<Vec<TermId>, AllocError>
+fn level_nodes(alloc: Global, heap: &mut Heap, levels: &[usize]) -> Result<Vec<TermId>, AllocError>
     ensures levels { IfOk result (λ ts. AreLevels heap.new ts.items levels.now) }
     ensures variables { OnOk result (heap.new.depths ≡ heap.old.depths) }
     ensures grows { Grows heap.old heap.new [] [] }
@@ -83,12 +79,7 @@ fn level_nodes(
 }
 
 /// The node abstracted over the levels from the first depth up to the second.
-fn abstracted(
-    heap: &mut Heap,
-    depth: usize,
-    to: usize,
-    body: TermId,
-) -> Result<TermId, AllocError>
+fn abstracted(heap: &mut Heap, depth: usize, to: usize, body: TermId) -> Result<TermId, AllocError>
     requires body { body.index < length heap.old.nodes }
     requires low { depth ≤ to }
     ensures abstractions { IfOk result (λ r. AreAbstractions heap.new (to - depth) depth r.index body.index) }

@@ -3,7 +3,6 @@ use Rattle.level_terms.specs.declared.node.Node.TheVariants.{Var, App}
 use Rattle.level_terms.specs.declared.node.TermId.{TermId}
 use Rattle.level_terms.specs.Sound.{IsHead, AllOlder}
 use Rattle.level_terms.proofs.GrowthLemmas.{grows-trans}
-use Rattle.pattern_unify.specs.Keeping.{AreLevels}
 use Rattle.pattern_unify.proofs.KeepNodes.{node-made, node-kept, levels-kept, levels-older, over-some}
 use Rattle.pattern_unify.proofs.keeping.var_over.Goals as goal
 
