@@ -507,3 +507,18 @@ fn values_are_printed(rt: HostRuntime) -> Result<(), Fail> {
     let shown = value_text(rt.alloc(), &symbols, f)?;
     expect(&shown, "f #0 #0", "a value")
 }
+
+#[test]
+fn deep_terms_are_printed_whole(rt: HostRuntime) -> Result<(), Fail> {
+    let mut builder = Builder::new(rt.alloc())?;
+    for _count in 0..1_000_000 {
+        builder.constant("f")?;
+    }
+    builder.constant("a")?;
+    for _count in 0..1_000_000 {
+        builder.application(1)?;
+    }
+    let shown = builder.term(0)?;
+    assert_eq!(rt; shown.len(), 3_999_999);
+    Ok(())
+}
