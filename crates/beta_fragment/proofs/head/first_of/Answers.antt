@@ -1,0 +1,22 @@
+use Rattle.std.proofs.Common.{◌∙◌, List, ap, sym, subst, reverse}
+use Rattle.level_terms.specs.declared.node.TermId.{TermId}
+use Rattle.beta_fragment.specs.HeadForm.{AllValidAt}
+use Rattle.beta_fragment.specs.Turn.{IsFirst}
+use Rattle.beta_fragment.proofs.ReadLemmas.{valid-below}
+use Rattle.beta_fragment.proofs.FirmLemmas.{last-split}
+use Rattle.beta_fragment.proofs.HeadLemmas.{newest-arg}
+use Rattle.beta_fragment.proofs.FirstLemmas.{first-known}
+use Rattle.beta_fragment.proofs.head.first_of.Goals as goal
+
+pub looked_at-requires : goal.looked_at-requires
+looked_at-requires c =
+    let split = last-split c.args.args.now c.in-Some.arg.now c.in-Some.ensures.value in
+    let order = ap reverse split.1 ∙ newest-arg split.0 c.in-Some.arg.now in
+    valid-below c.args.heap.now c.in-Some.arg.now.index c.args.depth (subst (λ ts. AllValidAt c.args.heap.now ts c.args.depth) order c.requires).0
+
+pub returns-in-Some : goal.returns-in-Some
+returns-in-Some c =
+    let split = last-split c.args.args.now c.in-Some.arg.now c.in-Some.ensures.value in
+    let order = ap reverse split.1 ∙ newest-arg split.0 c.in-Some.arg.now in
+    subst (λ (ts : List TermId). IsFirst c.args.heap.now c.args.depth ts c.looked_at.result) (sym order)
+    (first-known c.args.heap.now c.args.depth c.in-Some.arg.now (reverse split.0) c.looked_at.result (c.looked_at.ensures c.args.depth (subst (λ ts. AllValidAt c.args.heap.now ts c.args.depth) order c.requires).0))

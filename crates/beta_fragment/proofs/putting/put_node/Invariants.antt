@@ -1,0 +1,17 @@
+use Rattle.std.proofs.Common.{◌+◌, length, [], reverse}
+use Rattle.level_terms.specs.Sound.{AllOlder}
+use Rattle.level_terms.specs.Reading.{read}
+use Rattle.level_terms.specs.Growth.{Grows}
+use Rattle.beta_fragment.specs.Moves.{putting}
+use Rattle.beta_fragment.specs.Work.{IsLeading, work_size}
+use Rattle.beta_fragment.proofs.putting.put_node.Given as goal
+
+abbrev pub invariant-loop-task : goal.invariant-loop-task
+invariant-loop-task l = record {
+  leads : IsLeading l.fn.heap (putting (read l.fn.heap l.put.index) l.level) l.fn.t.index 0 (l.level + 1) (record { heap = l.heap; work = l.work.items; done = l.done.items });
+  there : AllOlder (length l.heap.nodes) l.done.items;
+  grows : Grows l.fn.heap l.heap [] [];
+}
+
+abbrev pub decreases-loop-task : goal.decreases-loop-task
+decreases-loop-task l = work_size l.fn.heap (reverse l.work.items)

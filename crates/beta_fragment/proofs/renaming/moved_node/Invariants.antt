@@ -1,0 +1,16 @@
+use Rattle.std.proofs.Common.{length, [], reverse}
+use Rattle.level_terms.specs.Sound.{AllOlder}
+use Rattle.level_terms.specs.Growth.{Grows}
+use Rattle.beta_fragment.specs.Moves.{naming}
+use Rattle.beta_fragment.specs.Work.{IsLeading, work_size}
+use Rattle.beta_fragment.proofs.renaming.moved_node.Given as goal
+
+abbrev pub invariant-loop-task : goal.invariant-loop-task
+invariant-loop-task l = record {
+  leads : IsLeading l.fn.heap (naming l.names l.to) l.fn.t.index (length l.names) (length l.names) (record { heap = l.heap; work = l.work.items; done = l.done.items });
+  there : AllOlder (length l.heap.nodes) l.done.items;
+  grows : Grows l.fn.heap l.heap [] [];
+}
+
+abbrev pub decreases-loop-task : goal.decreases-loop-task
+decreases-loop-task l = work_size l.fn.heap (reverse l.work.items)

@@ -1,0 +1,23 @@
+use Rattle.std.proofs.Common.{◌≡◌, ◌<◌, ◌-◌, ◌++◌, ◌∷◌, suc, reverse, drop, length, sym, ap, ◌∙◌, arith, append-nil, get_or}
+use Rattle.beta_fragment.specs.declared.renaming.Task.TheVariants.{Visit}
+use Rattle.beta_fragment.specs.Work.{visits}
+use Rattle.beta_fragment.proofs.VisitLemmas.{drop_all, drop_one, push_step}
+use Rattle.beta_fragment.proofs.renaming.push_visits.Goals as goal
+
+pub loop-i-init : goal.loop-i-init
+loop-i-init c = record {
+  within = omega arith;
+  pushed = sym (ap (λ ps. c.args.work.now.items ++ reverse ps) (drop_all c.args.base c.args.nodes.now) ∙ append-nil c.args.work.now.items);
+}
+
+pub loop-i-preserved : goal.loop-i-preserved
+loop-i-preserved c = record {
+  within = omega (arith, c.loop-i.invariant.within);
+  pushed =
+      let lt : c.loop-i.i - 1 < length c.args.nodes.now = omega (arith, c.loop-i.invariant.within, c.loop-i-test.true) in
+      let up : suc (c.loop-i.i - 1) ≡ c.loop-i.i = omega (arith, c.loop-i-test.true) in
+      let one = drop_one c.args.base c.args.nodes.now (c.loop-i.i - 1) (record { index = 0 }) lt in
+      push_step c.args.work.now.items c.loop-i.work.items c.push.new.self.items (drop c.loop-i.i (visits c.args.base c.args.nodes.now)) (Visit (get_or c.args.nodes.now (c.loop-i.i - 1) (record { index = 0 })) c.args.base) (drop (c.loop-i.i - 1) (visits c.args.base c.args.nodes.now))
+      c.loop-i.invariant.pushed c.in_ok-push.ensures.items
+      (one ∙ ap (λ k. Visit (get_or c.args.nodes.now (c.loop-i.i - 1) (record { index = 0 })) c.args.base ∷ drop k (visits c.args.base c.args.nodes.now)) up);
+}

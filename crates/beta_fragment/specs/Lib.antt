@@ -1,0 +1,17 @@
+pub mod Names
+pub mod Body
+pub mod HeadForm
+pub mod Moves
+pub mod Work
+pub mod Firm
+pub mod Spine
+pub mod Turn
+pub mod Cells
+pub mod Quoted
+pub mod LevelList
+pub mod Settled
+pub mod Compared
+pub mod Pairs
+pub mod Taking
+pub mod Quoting
+pub mod Evaluation

@@ -1,0 +1,420 @@
+//! What stands at a term's head.
+//!
+//! The head is followed through applications, values and abstractions that take a ready argument.
+//! The levels of the head's node stand for names, so that no body is copied.
+
+ghost use Rattle.std.specs.Prelude.{◌≡◌, ℕ, [], ◌∷◌, ◌++◌, ◌<◌, ◌≤◌, length, map, drop, reverse, slice_index, slice_get, IfOk, OnOk, None, Some};
+ghost use Rattle.level_terms.specs.Graph.{node_at, value_in};
+ghost use Rattle.level_terms.specs.Sound.{IsSound};
+ghost use Rattle.level_terms.specs.Valid.{IsValid};
+ghost use Rattle.level_terms.specs.Reading.{read};
+ghost use Rattle.level_terms.specs.Growth.{Grows};
+ghost use Rattle.level_terms.specs.declared.node.Node.TheVariants.{Lam as lam_node, App as app_node, Var as var_node};
+ghost use Rattle.ref_terms.specs.terms.Term as term;
+ghost use Rattle.ref_terms.specs.terms.Term.{Term};
+ghost use Rattle.ref_terms.specs.unification.Spine.{apply_all};
+ghost use Rattle.beta_fragment.specs.Names.{names, renamed, AllBelow};
+ghost use Rattle.beta_fragment.specs.Moves.{IsMove, IsVarOf, value_of};
+ghost use Rattle.beta_fragment.specs.HeadForm.{IsHeadForm, AllValidAt, all_read, rigid_head, ReadsAsLam};
+ghost use Rattle.beta_fragment.specs.Firm.{IsSpine, IsAbstractionNode};
+ghost use Rattle.beta_fragment.specs.Spine.{args_in};
+ghost use Rattle.beta_fragment.specs.Body.{IsLam};
+ghost use Rattle.beta_fragment.specs.Turn.{IsTurn, NoneReady, IsFirst};
+
+use crate::answer::{RigidHead, Whnf};
+use crate::glance::{Readiness, bare_var_of, is_abstraction, looked_at};
+use crate::levels::Levels;
+use crate::renaming::{made_lam, moved_levels, moved_node, sum_of};
+use crate::settling::settled;
+use level_terms::{Heap, Node, TermId, TermIds, VarId};
+use std::alloc::{AllocError, Global};
+
+/// What the term is: an abstraction exactly where it reads as one, and else its head with all its
+/// arguments. Answers `AllocError` on want of memory alone.
+pub fn whnf(alloc: Global, heap: &mut Heap, t: TermId, depth: usize) -> Result<Whnf, AllocError>
+    requires { IsValid heap.old t.index depth }
+    ensures form { IfOk result (λ w. IsHeadForm heap.new depth (read heap.old t.index names) w) }
+    ensures grows { Grows heap.old heap.new [] [] }
+{
+    heap.is_sound();
+    let mut levels = Levels::own(alloc, depth);
+    let mut fixed = depth;
+    let mut args = Vec::new(alloc);
+    let mut head = t;
+    loop {
+        match one_turn(alloc, heap, head, depth, &mut levels, &mut fixed, &mut args)? {
+            Turn::Goes(next) => head = next,
+            Turn::Ends(form) => return Ok(form),
+        }
+    }
+}
+
+/// What a turn comes to.
+#[derive(Drop)]
+enum Turn {
+    /// This node is at the head now.
+    Goes(TermId),
+    /// The form is found.
+    Ends(Whnf),
+}
+
+/// An argument of an application.
+fn arg_of(heap: &Heap, t: TermId, i: usize) -> TermId
+    requires there { t.index < length heap.now.nodes }
+    requires within { i < length (args_in (node_at heap.now.nodes t.index)) }
+    ensures { Some result ≡ slice_get (args_in (node_at heap.now.nodes t.index)) i }
+{
+    match heap.view(t) {
+        Node::App { args, .. } => args.as_slice()[i],
+        _ => t,
+    }
+}
+
+/// Puts the arguments of an application, renamed, before those that are there.
+fn push_args(
+    alloc: Global,
+    heap: &mut Heap,
+    levels: &Levels,
+    fixed: usize,
+    depth: usize,
+    t: TermId,
+    count: usize,
+    args: &mut Vec<TermId>,
+) -> Result<(), AllocError>
+    requires moves { IsMove levels.now fixed depth }
+    requires there { t.index < length heap.old.nodes }
+    requires count { count ≡ length (args_in (node_at heap.old.nodes t.index)) }
+    requires valid { AllValidAt heap.old (args_in (node_at heap.old.nodes t.index)) (length levels.now) }
+    requires args { AllValidAt heap.old (reverse args.old.items) depth }
+    ensures reads { OnOk result (all_read heap.new (reverse args.new.items) ≡ map (λ a. read heap.old a.index (renamed levels.now)) (args_in (node_at heap.old.nodes t.index)) ++ all_read heap.old (reverse args.old.items)) }
+    ensures valid { OnOk result (AllValidAt heap.new (reverse args.new.items) depth) }
+    ensures grows { Grows heap.old heap.new [] [] }
+{
+    heap.is_sound();
+    let mut i = count;
+    while i > 0 {
+        i -= 1;
+        heap.is_sound();
+        let arg = arg_of(heap, t, i);
+        let r = moved_node(alloc, heap, levels, fixed, depth, arg)?;
+        args.push(r)?;
+    }
+    Ok(())
+}
+
+/// The nodes of the first list, and then those of the second from its last one on.
+pub(crate) fn in_order(
+    alloc: Global,
+    first: &[TermId],
+    stack: &[TermId],
+) -> Result<TermIds, AllocError>
+    ensures { IfOk result (λ list. list ≡ first.now ++ reverse stack.now) }
+{
+    let mut list = TermIds::from_slice(alloc, first)?;
+    let mut i = stack.len();
+    while i > 0 {
+        i -= 1;
+        list.push(stack[i])?;
+    }
+    Ok(list)
+}
+
+/// The head that is an integer.
+fn int_head(n: i64) -> RigidHead
+    ensures { result ≡ RigidHead.Int n }
+{
+    RigidHead::Int(n)
+}
+
+/// The form of a head that no assignment changes.
+fn rigid(
+    alloc: Global,
+    heap: &Heap,
+    t: TermId,
+    head: RigidHead,
+    levels: &Levels,
+    depth: usize,
+    args: &[TermId],
+) -> Result<Whnf, AllocError>
+    requires head { read heap.now t.index (renamed levels.now) ≡ term.At (rigid_head head) }
+    ensures { IfOk result (λ w. (u : Term) → IsSpine heap.now depth u t.index levels.now args.now → IsHeadForm heap.now depth u w) }
+{
+    let list = in_order(alloc, &[], args)?;
+    Ok(Whnf::Rigid(head, list))
+}
+
+/// The form of a variable that has no value: it has the levels below `count` as its first arguments.
+fn flex(
+    alloc: Global,
+    heap: &mut Heap,
+    t: TermId,
+    v: VarId,
+    count: usize,
+    levels: &Levels,
+    depth: usize,
+    args: &[TermId],
+) -> Result<Whnf, AllocError>
+    requires known { v.index < length heap.old.depths }
+    requires free { value_in heap.old.assigned v.index ≡ None }
+    requires open_at { IsVarOf v.index count (value_of heap.old t) }
+    requires count { count ≤ length levels.now }
+    requires below { AllBelow levels.now depth }
+    ensures form { IfOk result (λ w. (u : Term) → IsSpine heap.old depth u t.index levels.now args.now → IsHeadForm heap.new depth u w) }
+    ensures grows { Grows heap.old heap.new [] [] }
+{
+    heap.is_sound();
+    let first = moved_levels(alloc, heap, levels, levels.len(), depth, count)?;
+    let list = in_order(alloc, first.as_slice(), args)?;
+    Ok(Whnf::Flex(v, list))
+}
+
+/// An abstraction with its levels renamed. Where these stay it is the same node.
+fn renamed_lam(
+    alloc: Global,
+    heap: &mut Heap,
+    t: TermId,
+    made: usize,
+    body: TermId,
+    levels: &mut Levels,
+    fixed: usize,
+    depth: usize,
+) -> Result<TermId, AllocError>
+    requires here { node_at heap.old.nodes t.index ≡ Some (lam_node made body) }
+    requires valid { IsValid heap.old t.index (length levels.old) }
+    requires moves { IsMove levels.old fixed depth }
+    ensures reads { IfOk result (λ r. read heap.new r.index names ≡ read heap.old t.index (renamed levels.old)) }
+    ensures lam { IfOk result (λ r. IsLam (node_at heap.new.nodes r.index)) }
+    ensures valid { IfOk result (λ r. IsValid heap.new r.index depth) }
+    ensures grows { Grows heap.old heap.new [] [] }
+{
+    heap.is_sound();
+    if made <= fixed {
+        return Ok(t);
+    }
+    let inner = sum_of(depth, 1)?;
+    levels.truncate(made);
+    levels.push(depth)?;
+    let r = moved_node(alloc, heap, levels, fixed, inner, body)?;
+    made_lam(heap, depth, r)
+}
+
+/// The form of an abstraction that is certain to be one, before its arguments, if any: the first of
+/// them doesn't become ready.
+fn stuck(
+    alloc: Global,
+    heap: &mut Heap,
+    t: TermId,
+    made: usize,
+    body: TermId,
+    levels: &mut Levels,
+    fixed: usize,
+    depth: usize,
+    args: &[TermId],
+) -> Result<Whnf, AllocError>
+    requires here { node_at heap.old.nodes t.index ≡ Some (lam_node made body) }
+    requires valid { IsValid heap.old t.index (length levels.old) }
+    requires moves { IsMove levels.old fixed depth }
+    requires certain { IsAbstractionNode heap.old t.index }
+    requires unready { NoneReady heap.old (reverse args.now) }
+    ensures form { IfOk result (λ w. (u : Term) → IsSpine heap.old depth u t.index levels.old args.now → IsHeadForm heap.new depth u w) }
+    ensures grows { Grows heap.old heap.new [] [] }
+{
+    heap.is_sound();
+    let r = renamed_lam(alloc, heap, t, made, body, levels, fixed, depth)?;
+    if args.is_empty() {
+        return Ok(Whnf::Lam(r));
+    }
+    let list = in_order(alloc, &[], args)?;
+    Ok(Whnf::Redex(r, list))
+}
+
+/// The form of an abstraction, before its arguments, if any: the first of them doesn't become ready.
+fn held(
+    alloc: Global,
+    heap: &mut Heap,
+    t: TermId,
+    made: usize,
+    body: TermId,
+    levels: &mut Levels,
+    fixed: usize,
+    depth: usize,
+    args: &[TermId],
+) -> Result<Whnf, AllocError>
+    requires here { node_at heap.old.nodes t.index ≡ Some (lam_node made body) }
+    requires valid { IsValid heap.old t.index (length levels.old) }
+    requires moves { IsMove levels.old fixed depth }
+    requires args { AllValidAt heap.old (reverse args.now) depth }
+    requires unready { NoneReady heap.old (reverse args.now) }
+    ensures form { IfOk result (λ w. (u : Term) → IsSpine heap.old depth u t.index levels.old args.now → IsHeadForm heap.new depth u w) }
+    ensures grows { Grows heap.old heap.new [] [] }
+{
+    heap.is_sound();
+    if is_abstraction(heap, t) {
+        return stuck(alloc, heap, t, made, body, levels, fixed, depth, args);
+    }
+    match bare_var_of(heap, t, made) {
+        Some(v) => flex(alloc, heap, t, v, made, levels, depth, args),
+        None => settled(alloc, heap, t, levels, args, depth),
+    }
+}
+
+/// A turn at an abstraction.
+fn turn_lam(
+    alloc: Global,
+    heap: &mut Heap,
+    head: TermId,
+    made: usize,
+    body: TermId,
+    depth: usize,
+    levels: &mut Levels,
+    fixed: &mut usize,
+    args: &mut Vec<TermId>,
+) -> Result<Turn, AllocError>
+    requires here { node_at heap.old.nodes head.index ≡ Some (lam_node made body) }
+    requires moves { IsMove levels.old fixed.old depth }
+    requires valid { IsValid heap.old head.index (length levels.old) }
+    requires args { AllValidAt heap.old (reverse args.old.items) depth }
+    ensures turn { IfOk result (λ w. IsTurn depth heap.old heap.new head.index levels.old levels.new fixed.new args.old.items args.new.items w) }
+    ensures grows { Grows heap.old heap.new [] [] }
+{
+    heap.is_sound();
+    match first_of(heap, args.as_slice(), depth) {
+        Readiness::Level(k) => {
+            args.pop();
+            levels.truncate(made);
+            levels.push(k)?;
+            *fixed = (*fixed).min(made);
+            Ok(Turn::Goes(body))
+        }
+        Readiness::Unready => {
+            let form = held(
+                alloc,
+                heap,
+                head,
+                made,
+                body,
+                levels,
+                *fixed,
+                depth,
+                args.as_slice(),
+            )?;
+            Ok(Turn::Ends(form))
+        }
+        Readiness::Unknown => {
+            let form = settled(alloc, heap, head, levels, args.as_slice(), depth)?;
+            Ok(Turn::Ends(form))
+        }
+    }
+}
+
+/// Whether the first argument is ready, as far as a look can say. Without an argument, none is.
+fn first_of(heap: &Heap, args: &[TermId], depth: usize) -> Readiness
+    requires { AllValidAt heap.now (reverse args.now) depth }
+    ensures { IsFirst heap.now depth (reverse args.now) result }
+{
+    heap.is_sound();
+    match args.last() {
+        Some(arg) => looked_at(heap, *arg),
+        None => Readiness::Unready,
+    }
+}
+
+/// A turn: what is at the head is taken apart, or the form is found.
+fn one_turn(
+    alloc: Global,
+    heap: &mut Heap,
+    head: TermId,
+    depth: usize,
+    levels: &mut Levels,
+    fixed: &mut usize,
+    args: &mut Vec<TermId>,
+) -> Result<Turn, AllocError>
+    requires moves { IsMove levels.old fixed.old depth }
+    requires valid { IsValid heap.old head.index (length levels.old) }
+    requires args { AllValidAt heap.old (reverse args.old.items) depth }
+    ensures turn { IfOk result (λ w. IsTurn depth heap.old heap.new head.index levels.old levels.new fixed.new args.old.items args.new.items w) }
+    ensures grows { Grows heap.old heap.new [] [] }
+{
+    heap.is_sound();
+    match heap.view(head) {
+        Node::Con(c) => {
+            let form = rigid(
+                alloc,
+                heap,
+                head,
+                RigidHead::Con(*c),
+                levels,
+                depth,
+                args.as_slice(),
+            )?;
+            Ok(Turn::Ends(form))
+        }
+        Node::Int(n) => {
+            let n = *n;
+            let name = int_head(n);
+            let form = rigid(alloc, heap, head, name, levels, depth, args.as_slice())?;
+            Ok(Turn::Ends(form))
+        }
+        Node::Str(s) => {
+            let form = rigid(
+                alloc,
+                heap,
+                head,
+                RigidHead::Str(*s),
+                levels,
+                depth,
+                args.as_slice(),
+            )?;
+            Ok(Turn::Ends(form))
+        }
+        Node::Level(l) => {
+            let name = RigidHead::Level(levels.name(*l));
+            let form = rigid(alloc, heap, head, name, levels, depth, args.as_slice())?;
+            Ok(Turn::Ends(form))
+        }
+        Node::Lam { depth: made, body } => {
+            let made = *made;
+            let body = *body;
+            turn_lam(alloc, heap, head, made, body, depth, levels, fixed, args)
+        }
+        Node::App {
+            head: inner,
+            args: list,
+        } => {
+            let inner = *inner;
+            let count = list.len();
+            push_args(alloc, heap, levels, *fixed, depth, head, count, args)?;
+            Ok(Turn::Goes(inner))
+        }
+        Node::Var(v) => {
+            let v = *v;
+            turn_var(alloc, heap, head, v, depth, levels, *fixed, args.as_slice())
+        }
+    }
+}
+
+/// A turn at a variable.
+fn turn_var(
+    alloc: Global,
+    heap: &mut Heap,
+    head: TermId,
+    v: VarId,
+    depth: usize,
+    levels: &Levels,
+    fixed: usize,
+    args: &[TermId],
+) -> Result<Turn, AllocError>
+    requires here { node_at heap.old.nodes head.index ≡ Some (var_node v) }
+    requires moves { IsMove levels.now fixed depth }
+    requires valid { IsValid heap.old head.index (length levels.now) }
+    ensures turn { IfOk result (λ w. IsTurn depth heap.old heap.new head.index levels.now levels.now fixed args.now args.now w) }
+    ensures grows { Grows heap.old heap.new [] [] }
+{
+    heap.is_sound();
+    if let Some(value) = heap.value(v) {
+        return Ok(Turn::Goes(value));
+    }
+    let count = heap.var_depth(v);
+    let form = flex(alloc, heap, head, v, count, levels, depth, args)?;
+    Ok(Turn::Ends(form))
+}

@@ -1,0 +1,11 @@
+pub mod WrittenLemmas
+pub mod OpenedLemmas
+pub mod NameLemmas
+pub mod NumberLemmas
+pub mod FormLemmas
+pub mod ChainLemmas
+pub mod StepLemmas
+pub mod LookLemmas
+pub mod PrintLemmas
+pub mod SequentLemmas
+pub mod BuildLemmas
