@@ -43,6 +43,11 @@ pub enum UnifyStop {
 }
 
 impl From<AllocError> for UnifyStop {
+    ghost use Rattle.std.specs.Prelude.{◌≡◌};
+    ghost use Rattle.beta_fragment.specs.declared.answer.UnifyStop.TheVariants.{Memory};
+
+    ghost from_gives = { λ _ stop. stop ≡ Memory };
+
     fn from(_: AllocError) -> UnifyStop {
         UnifyStop::Memory
     }
