@@ -33,7 +33,8 @@ pub(crate) struct Pair {
     depth: usize,
 }
 
-/// Whether both terms have equal readings. Answers `AllocError` on want of memory alone.
+/// Whether both terms have equal readings. Makes no variable. Answers `AllocError` on want of memory
+/// alone.
 pub fn same_term(
     alloc: Global,
     heap: &mut Heap,
@@ -44,6 +45,7 @@ pub fn same_term(
     requires left { IsValid heap.old s.index depth }
     requires right { IsValid heap.old t.index depth }
     ensures same { IfOk result (λ b. IsTrue b ↔ (read heap.old s.index names ≡ read heap.old t.index names)) }
+    ensures variables { heap.new.depths ≡ heap.old.depths }
     ensures grows { Grows heap.old heap.new [] [] }
 {
     let mut work = Vec::new(alloc);

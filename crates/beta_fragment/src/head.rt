@@ -30,10 +30,11 @@ use level_terms::{Heap, Node, TermId, TermIds, VarId};
 use std::alloc::{AllocError, Global};
 
 /// What the term is: an abstraction exactly where it reads as one, and else its head with all its
-/// arguments. Answers `AllocError` on want of memory alone.
+/// arguments. Makes no variable. Answers `AllocError` on want of memory alone.
 pub fn whnf(alloc: Global, heap: &mut Heap, t: TermId, depth: usize) -> Result<Whnf, AllocError>
     requires { IsValid heap.old t.index depth }
     ensures form { IfOk result (λ w. IsHeadForm heap.new depth (read heap.old t.index names) w) }
+    ensures variables { heap.new.depths ≡ heap.old.depths }
     ensures grows { Grows heap.old heap.new [] [] }
 {
     heap.is_sound();
@@ -88,6 +89,7 @@ fn push_args(
     requires args { AllValidAt heap.old (reverse args.old.items) depth }
     ensures reads { OnOk result (all_read heap.new (reverse args.new.items) ≡ map (λ a. read heap.old a.index (renamed levels.now)) (args_in (node_at heap.old.nodes t.index)) ++ all_read heap.old (reverse args.old.items)) }
     ensures valid { OnOk result (AllValidAt heap.new (reverse args.new.items) depth) }
+    ensures variables { heap.new.depths ≡ heap.old.depths }
     ensures grows { Grows heap.old heap.new [] [] }
 {
     heap.is_sound();
@@ -160,6 +162,7 @@ fn flex(
     requires count { count ≤ length levels.now }
     requires below { AllBelow levels.now depth }
     ensures form { IfOk result (λ w. (u : Term) → IsSpine heap.old depth u t.index levels.now args.now → IsHeadForm heap.new depth u w) }
+    ensures variables { heap.new.depths ≡ heap.old.depths }
     ensures grows { Grows heap.old heap.new [] [] }
 {
     heap.is_sound();
@@ -185,6 +188,7 @@ fn renamed_lam(
     ensures reads { IfOk result (λ r. read heap.new r.index names ≡ read heap.old t.index (renamed levels.old)) }
     ensures lam { IfOk result (λ r. IsLam (node_at heap.new.nodes r.index)) }
     ensures valid { IfOk result (λ r. IsValid heap.new r.index depth) }
+    ensures variables { heap.new.depths ≡ heap.old.depths }
     ensures grows { Grows heap.old heap.new [] [] }
 {
     heap.is_sound();
@@ -217,6 +221,7 @@ fn stuck(
     requires certain { IsAbstractionNode heap.old t.index }
     requires unready { NoneReady heap.old (reverse args.now) }
     ensures form { IfOk result (λ w. (u : Term) → IsSpine heap.old depth u t.index levels.old args.now → IsHeadForm heap.new depth u w) }
+    ensures variables { heap.new.depths ≡ heap.old.depths }
     ensures grows { Grows heap.old heap.new [] [] }
 {
     heap.is_sound();
@@ -246,6 +251,7 @@ fn held(
     requires args { AllValidAt heap.old (reverse args.now) depth }
     requires unready { NoneReady heap.old (reverse args.now) }
     ensures form { IfOk result (λ w. (u : Term) → IsSpine heap.old depth u t.index levels.old args.now → IsHeadForm heap.new depth u w) }
+    ensures variables { heap.new.depths ≡ heap.old.depths }
     ensures grows { Grows heap.old heap.new [] [] }
 {
     heap.is_sound();
@@ -275,6 +281,7 @@ fn turn_lam(
     requires valid { IsValid heap.old head.index (length levels.old) }
     requires args { AllValidAt heap.old (reverse args.old.items) depth }
     ensures turn { IfOk result (λ w. IsTurn depth heap.old heap.new head.index levels.old levels.new fixed.new args.old.items args.new.items w) }
+    ensures variables { heap.new.depths ≡ heap.old.depths }
     ensures grows { Grows heap.old heap.new [] [] }
 {
     heap.is_sound();
@@ -333,6 +340,7 @@ fn one_turn(
     requires valid { IsValid heap.old head.index (length levels.old) }
     requires args { AllValidAt heap.old (reverse args.old.items) depth }
     ensures turn { IfOk result (λ w. IsTurn depth heap.old heap.new head.index levels.old levels.new fixed.new args.old.items args.new.items w) }
+    ensures variables { heap.new.depths ≡ heap.old.depths }
     ensures grows { Grows heap.old heap.new [] [] }
 {
     heap.is_sound();
@@ -408,6 +416,7 @@ fn turn_var(
     requires moves { IsMove levels.now fixed depth }
     requires valid { IsValid heap.old head.index (length levels.now) }
     ensures turn { IfOk result (λ w. IsTurn depth heap.old heap.new head.index levels.now levels.now fixed args.now args.now w) }
+    ensures variables { heap.new.depths ≡ heap.old.depths }
     ensures grows { Grows heap.old heap.new [] [] }
 {
     heap.is_sound();

@@ -1,7 +1,8 @@
 //! Terms of the search up to application: what stands at a term's head, the bodies of abstractions,
 //! renaming of names, and equality.
 //!
-//! Each call leaves what every term means as it was. It adds nodes alone, and assigns nothing.
+//! Each call leaves what every term means as it was. It adds nodes alone: it makes no variable,
+//! and assigns nothing.
 #![tactic(auto)]
 
 mod answer;

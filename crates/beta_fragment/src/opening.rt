@@ -22,8 +22,8 @@ use crate::renaming::{moved_node, sum_of};
 use level_terms::{Heap, Node, TermId};
 use std::alloc::{AllocError, Global};
 
-/// The abstraction's body with the argument for its bound name. Answers `AllocError` on want of
-/// memory alone.
+/// The abstraction's body with the argument for its bound name. Makes no variable. Answers
+/// `AllocError` on want of memory alone.
 pub fn contract(
     alloc: Global,
     heap: &mut Heap,
@@ -37,6 +37,7 @@ pub fn contract(
     ensures reads { IfOk result (λ r. (d : ℕ) (body : Id) → node_at heap.old.nodes lam.index ≡ Some (lam_node d body) →
         read heap.new r.index names ≡ opened_reads heap.old d body.index (read heap.old arg.index names)) }
     ensures valid { IfOk result (λ r. IsValid heap.new r.index depth) }
+    ensures variables { heap.new.depths ≡ heap.old.depths }
     ensures grows { Grows heap.old heap.new [] [] }
 {
     heap.is_sound();
@@ -69,6 +70,7 @@ pub(crate) fn opened(
     requires low { made ≤ to }
     ensures reads { IfOk result (λ r. read heap.new r.index names ≡ read heap.old body.index (at_name made name)) }
     ensures valid { IfOk result (λ r. IsValid heap.new r.index to) }
+    ensures variables { heap.new.depths ≡ heap.old.depths }
     ensures grows { Grows heap.old heap.new [] [] }
 {
     heap.is_sound();
@@ -97,6 +99,7 @@ fn filled(
     requires argument { IsValid heap.old arg.index depth }
     ensures reads { IfOk result (λ r. read heap.new r.index names ≡ opened_reads heap.old made body.index (read heap.old arg.index names)) }
     ensures valid { IfOk result (λ r. IsValid heap.new r.index depth) }
+    ensures variables { heap.new.depths ≡ heap.old.depths }
     ensures grows { Grows heap.old heap.new [] [] }
 {
     heap.is_sound();
@@ -117,6 +120,7 @@ fn put_name(
     requires valid { IsValid heap.old t.index (depth + 1) }
     ensures reads { IfOk result (λ r. read heap.new r.index names ≡ fill (put_in depth (read heap.old put.index names)) (read heap.old t.index names)) }
     ensures valid { IfOk result (λ r. IsValid heap.new r.index depth) }
+    ensures variables { heap.new.depths ≡ heap.old.depths }
     ensures grows { Grows heap.old heap.new [] [] }
 {
     heap.is_sound();
@@ -139,6 +143,7 @@ fn reduced(
     requires valid { IsValid heap.old t.index (depth + 1) }
     ensures reads { IfOk result (λ r. read heap.new r.index names ≡ fill (put_in depth (read heap.old put.index names)) (read heap.old t.index names)) }
     ensures valid { IfOk result (λ r. IsValid heap.new r.index depth) }
+    ensures variables { heap.new.depths ≡ heap.old.depths }
     ensures grows { Grows heap.old heap.new [] [] }
 {
     heap.is_sound();

@@ -30,6 +30,7 @@ fn put_level(heap: &mut Heap, put: TermId, level: usize, i: usize) -> Result<Ter
     requires { IsValid heap.old put.index level }
     ensures level { IfOk result (λ r. IsPutLevel (read heap.old put.index) level i (value_of heap.new r)) }
     ensures there { IfOk result (λ r. r.index < length heap.new.nodes) }
+    ensures variables { heap.new.depths ≡ heap.old.depths }
     ensures grows { Grows heap.old heap.new [] [] }
 {
     if i < level {
@@ -56,6 +57,7 @@ fn put_at_level(
     requires done { AllOlder (length heap.old.nodes) done.old.items }
     ensures steps { OnOk result ((work : List TaskOf) → Steps (putting (read heap.old put.index) level) (record { heap = heap.old; work = work ++ visit_task node base ∷ []; done = done.old.items }) (record { heap = heap.new; work = work; done = done.new.items })) }
     ensures done { OnOk result (AllOlder (length heap.new.nodes) done.new.items) }
+    ensures variables { heap.new.depths ≡ heap.old.depths }
     ensures grows { Grows heap.old heap.new [] [] }
 {
     heap.is_sound();
@@ -142,6 +144,7 @@ fn put_levels(
     ensures levels { IfOk result (λ args. ArePutLevels (read heap.old put.index) level 0 (map (value_of heap.new) args.items)) }
     ensures count { IfOk result (λ args. length args.items ≡ depth) }
     ensures there { IfOk result (λ args. AllOlder (length heap.new.nodes) args.items) }
+    ensures variables { heap.new.depths ≡ heap.old.depths }
     ensures grows { Grows heap.old heap.new [] [] }
 {
     heap.is_sound();
@@ -169,6 +172,7 @@ fn put_var(
     requires put { IsValid heap.old put.index level }
     ensures var { IfOk result (λ r. IsPutVar (read heap.old put.index) level v.index (slice_index heap.old.depths v.index) (value_of heap.new r)) }
     ensures there { IfOk result (λ r. r.index < length heap.new.nodes) }
+    ensures variables { heap.new.depths ≡ heap.old.depths }
     ensures grows { Grows heap.old heap.new [] [] }
 {
     heap.is_sound();
@@ -198,6 +202,7 @@ fn put_at_var(
     requires done { AllOlder (length heap.old.nodes) done.old.items }
     ensures steps { OnOk result (Steps (putting (read heap.old put.index) level) (record { heap = heap.old; work = work.old.items ++ visit_task node base ∷ []; done = done.old.items }) (record { heap = heap.new; work = work.new.items; done = done.new.items })) }
     ensures done { OnOk result (AllOlder (length heap.new.nodes) done.new.items) }
+    ensures variables { heap.new.depths ≡ heap.old.depths }
     ensures grows { Grows heap.old heap.new [] [] }
 {
     heap.is_sound();
@@ -227,6 +232,7 @@ fn put_at(
     requires done { AllOlder (length heap.old.nodes) done.old.items }
     ensures steps { OnOk result (Steps (putting (read heap.old put.index) level) (record { heap = heap.old; work = work.old.items ++ visit_task node base ∷ []; done = done.old.items }) (record { heap = heap.new; work = work.new.items; done = done.new.items })) }
     ensures done { OnOk result (AllOlder (length heap.new.nodes) done.new.items) }
+    ensures variables { heap.new.depths ≡ heap.old.depths }
     ensures grows { Grows heap.old heap.new [] [] }
 {
     heap.is_sound();
@@ -300,6 +306,7 @@ fn put_step(
     requires done { AllOlder (length heap.old.nodes) done.old.items }
     ensures steps { OnOk result (Steps (putting (read heap.old put.index) level) (record { heap = heap.old; work = work.old.items ++ task ∷ []; done = done.old.items }) (record { heap = heap.new; work = work.new.items; done = done.new.items })) }
     ensures done { OnOk result (AllOlder (length heap.new.nodes) done.new.items) }
+    ensures variables { heap.new.depths ≡ heap.old.depths }
     ensures grows { Grows heap.old heap.new [] [] }
 {
     match task {
@@ -322,6 +329,7 @@ pub(crate) fn put_node(
     requires valid { IsValid heap.old t.index (level + 1) }
     ensures puts { IfOk result (λ o. IfSome o (λ r. Puts heap.old (read heap.old put.index) level t.index (level + 1) (value_of heap.new r))) }
     ensures there { IfOk result (λ o. IfSome o (λ r. r.index < length heap.new.nodes)) }
+    ensures variables { heap.new.depths ≡ heap.old.depths }
     ensures grows { Grows heap.old heap.new [] [] }
 {
     heap.is_sound();

@@ -45,6 +45,7 @@ pub(crate) enum Task {
 /// The node of a constant.
 fn made_con(heap: &mut Heap, c: Sym) -> Result<TermId, AllocError>
     ensures head { IfOk result (λ r. IsHeadOf (rigid_head (con_head c)) (value_of heap.new r)) }
+    ensures variables { heap.new.depths ≡ heap.old.depths }
     ensures grows { Grows heap.old heap.new [] [] }
 {
     let r = heap.con(c)?;
@@ -55,6 +56,7 @@ fn made_con(heap: &mut Heap, c: Sym) -> Result<TermId, AllocError>
 /// The node of an integer.
 fn made_int(heap: &mut Heap, n: i64) -> Result<TermId, AllocError>
     ensures head { IfOk result (λ r. IsHeadOf (rigid_head (int_head n)) (value_of heap.new r)) }
+    ensures variables { heap.new.depths ≡ heap.old.depths }
     ensures grows { Grows heap.old heap.new [] [] }
 {
     let r = heap.int(n)?;
@@ -65,6 +67,7 @@ fn made_int(heap: &mut Heap, n: i64) -> Result<TermId, AllocError>
 /// The node of a string.
 fn made_text(heap: &mut Heap, s: Sym) -> Result<TermId, AllocError>
     ensures head { IfOk result (λ r. IsHeadOf (rigid_head (str_head s)) (value_of heap.new r)) }
+    ensures variables { heap.new.depths ≡ heap.old.depths }
     ensures grows { Grows heap.old heap.new [] [] }
 {
     let r = heap.text(s)?;
@@ -82,6 +85,7 @@ fn name_node(
     requires named { AllNamesBelow (names_with depth put) (term.At (term.Name n)) }
     requires put { IsValidIfAny heap.old put depth }
     ensures quotes { IfOk result (λ r. (under : ℕ) → Quotes (put_head heap.old depth put) depth under (term.At (term.Name n)) (value_of heap.new r)) }
+    ensures variables { heap.new.depths ≡ heap.old.depths }
     ensures grows { Grows heap.old heap.new [] [] }
 {
     heap.is_sound();
@@ -103,6 +107,7 @@ fn rigid_node(
     requires named { AllNamesBelow (names_with depth put) (term.At (rigid_head head)) }
     requires put { IsValidIfAny heap.old put depth }
     ensures quotes { IfOk result (λ r. (under : ℕ) → Quotes (put_head heap.old depth put) depth under (term.At (rigid_head head)) (value_of heap.new r)) }
+    ensures variables { heap.new.depths ≡ heap.old.depths }
     ensures grows { Grows heap.old heap.new [] [] }
 {
     match head {
@@ -117,6 +122,7 @@ fn rigid_node(
 fn index_node(heap: &mut Heap, depth: usize, under: usize, i: usize) -> Result<TermId, AllocError>
     requires { i < under }
     ensures quotes { IfOk result (λ r. (h : Head → Term) → Quotes h depth under (term.At (term.Bound i)) (value_of heap.new r)) }
+    ensures variables { heap.new.depths ≡ heap.old.depths }
     ensures grows { Grows heap.old heap.new [] [] }
 {
     let level = sum_of(depth, under - 1 - i)?;
@@ -187,6 +193,7 @@ fn visit(
     requires put { IsValidIfAny heap.old put depth }
     ensures steps { OnOk result ((g : Graph) (u : Item) → put_head g depth put ≡ put_head heap.old depth put → IsQuoting (set_for g (terms_of cells.now) depth put) u heap.old (work.old.items ++ visit_task t under ∷ []) done.old.items → IsQuoting (set_for g (terms_of cells.now) depth put) u heap.new work.new.items done.new.items) }
     ensures smaller { OnOk result (tasks_size (terms_of cells.now) work.new.items < tasks_size (terms_of cells.now) (work.old.items ++ visit_task t under ∷ [])) }
+    ensures variables { heap.new.depths ≡ heap.old.depths }
     ensures grows { Grows heap.old heap.new [] [] }
 {
     heap.is_sound();
@@ -221,6 +228,7 @@ fn finish_lam(
     requires some { 0 < length done.old.items }
     requires done { AllOlder (length heap.old.nodes) done.old.items }
     ensures steps { OnOk result ((s : Setting) (u : Item) (work : List TaskOf) → s.depth ≡ depth → IsQuoting s u heap.old (work ++ lam_task under ∷ []) done.old.items → IsQuoting s u heap.new work done.new.items) }
+    ensures variables { heap.new.depths ≡ heap.old.depths }
     ensures grows { Grows heap.old heap.new [] [] }
 {
     heap.is_sound();
@@ -245,6 +253,7 @@ fn finish_app(
     requires some { suc head < length done.old.items }
     requires done { AllOlder (length heap.old.nodes) done.old.items }
     ensures steps { OnOk result ((s : Setting) (u : Item) (work : List TaskOf) → IsQuoting s u heap.old (work ++ app_task head ∷ []) done.old.items → IsQuoting s u heap.new work done.new.items) }
+    ensures variables { heap.new.depths ≡ heap.old.depths }
     ensures grows { Grows heap.old heap.new [] [] }
 {
     heap.is_sound();
@@ -271,6 +280,7 @@ fn step(
     requires done { AllOlder (length heap.old.nodes) done.old.items }
     ensures steps { OnOk result ((g : Graph) (u : Item) → put_head g depth put ≡ put_head heap.old depth put → IsQuoting (set_for g (terms_of cells.now) depth put) u heap.old (work.old.items ++ task ∷ []) done.old.items → IsQuoting (set_for g (terms_of cells.now) depth put) u heap.new work.new.items done.new.items) }
     ensures smaller { OnOk result (tasks_size (terms_of cells.now) work.new.items < tasks_size (terms_of cells.now) (work.old.items ++ task ∷ [])) }
+    ensures variables { heap.new.depths ≡ heap.old.depths }
     ensures grows { Grows heap.old heap.new [] [] }
 {
     match task {
@@ -302,6 +312,7 @@ fn quoted_under(
     requires ready { CanVisit (set_for heap.old (terms_of cells.now) depth put) t under }
     requires put { IsValidIfAny heap.old put depth }
     ensures quotes { IfOk result (λ r. Quotes (put_head heap.old depth put) depth under (term_at (terms_of cells.now) t) (value_of heap.new r)) }
+    ensures variables { heap.new.depths ≡ heap.old.depths }
     ensures grows { Grows heap.old heap.new [] [] }
 {
     heap.is_sound();
@@ -334,6 +345,7 @@ pub(crate) fn quoted(
     ensures reads { IfOk result (λ r. read heap.new r.index names ≡ fill (put_head heap.old depth put) (term_at (terms_of cells.now) t)) }
     ensures valid { IfOk result (λ r. IsValid heap.new r.index depth) }
     ensures lam { IfOk result (λ r. IsAbstraction (term_at (terms_of cells.now) t) → IsLam (node_at heap.new.nodes r.index)) }
+    ensures variables { heap.new.depths ≡ heap.old.depths }
     ensures grows { Grows heap.old heap.new [] [] }
 {
     if let Cell::Lam(body) = cells.get(t) {

@@ -37,8 +37,8 @@ pub(crate) enum Task {
     App { args: usize },
 }
 
-/// The term with each level below `from` renamed to the name that the list has for it. Answers
-/// `AllocError` on want of memory alone.
+/// The term with each level below `from` renamed to the name that the list has for it. Makes no
+/// variable. Answers `AllocError` on want of memory alone.
 pub fn lift(
     alloc: Global,
     heap: &mut Heap,
@@ -53,6 +53,7 @@ pub fn lift(
     requires distinct { AreDistinct names.now }
     ensures reads { IfOk result (λ r. read heap.new r.index own_names ≡ read heap.old t.index (renamed_by names.now)) }
     ensures valid { IfOk result (λ r. IsValid heap.new r.index to) }
+    ensures variables { heap.new.depths ≡ heap.old.depths }
     ensures grows { Grows heap.old heap.new [] [] }
 {
     let names = &names.as_slice()[..from];
@@ -92,6 +93,7 @@ pub(crate) fn made_app(heap: &mut Heap, head: TermId, args: &[TermId]) -> Result
     requires some { 0 < length args.now }
     ensures app { IfOk result (λ r. IsAppOf (value_of heap.old head) (map (value_of heap.old) args.now) (value_of heap.new r)) }
     ensures there { IfOk result (λ r. r.index < length heap.new.nodes) }
+    ensures variables { heap.new.depths ≡ heap.old.depths }
     ensures grows { Grows heap.old heap.new [] [] }
 {
     heap.is_sound();
@@ -112,6 +114,7 @@ pub(crate) fn applied(
     requires some { 0 < length args.now }
     ensures app { IfOk result (λ r. IsAppOf (value_of heap.old head) (map (value_of heap.old) args.now) (value_of heap.new r)) }
     ensures there { IfOk result (λ r. r.index < length heap.new.nodes) }
+    ensures variables { heap.new.depths ≡ heap.old.depths }
     ensures grows { Grows heap.old heap.new [] [] }
 {
     heap.is_sound();
@@ -134,6 +137,7 @@ pub(crate) fn made_lam(heap: &mut Heap, depth: usize, body: TermId) -> Result<Te
     ensures head { IfOk result (λ r. IsHead (node_at heap.new.nodes r.index)) }
     ensures node { IfOk result (λ r. node_at heap.new.nodes r.index ≡ Some (lam_node depth body)) }
     ensures there { IfOk result (λ r. r.index < length heap.new.nodes) }
+    ensures variables { heap.new.depths ≡ heap.old.depths }
     ensures grows { Grows heap.old heap.new [] [] }
 {
     heap.is_sound();
@@ -164,6 +168,7 @@ pub(crate) fn sum_of(a: usize, b: usize) -> Result<usize, AllocError>
 pub(crate) fn made_level(heap: &mut Heap, level: usize) -> Result<TermId, AllocError>
     ensures level { IfOk result (λ r. IsLevelOf level (value_of heap.new r)) }
     ensures there { IfOk result (λ r. r.index < length heap.new.nodes) }
+    ensures variables { heap.new.depths ≡ heap.old.depths }
     ensures grows { Grows heap.old heap.new [] [] }
 {
     let r = heap.level(level)?;
@@ -187,6 +192,7 @@ fn visit_level(
     requires done { AllOlder (length heap.old.nodes) done.old.items }
     ensures steps { OnOk result ((work : List TaskOf) → Steps (naming names.now to) (record { heap = heap.old; work = work ++ visit_task node base ∷ []; done = done.old.items }) (record { heap = heap.new; work = work; done = done.new.items })) }
     ensures done { OnOk result (AllOlder (length heap.new.nodes) done.new.items) }
+    ensures variables { heap.new.depths ≡ heap.old.depths }
     ensures grows { Grows heap.old heap.new [] [] }
 {
     heap.is_sound();
@@ -272,6 +278,7 @@ pub(crate) fn bare_var(heap: &mut Heap, v: VarId) -> Result<TermId, AllocError>
     ensures open { IfOk result (λ r. IsVarOf v.index 0 (value_of heap.new r)) }
     ensures head { IfOk result (λ r. IsHead (node_at heap.new.nodes r.index)) }
     ensures there { IfOk result (λ r. r.index < length heap.new.nodes) }
+    ensures variables { heap.new.depths ≡ heap.old.depths }
     ensures grows { Grows heap.old heap.new [] [] }
 {
     let mut depth = heap.var_depth(v);
@@ -290,6 +297,7 @@ pub(crate) fn made_var(heap: &mut Heap, v: VarId) -> Result<TermId, AllocError>
     ensures open { IfOk result (λ r. IsVarOf v.index (slice_index heap.old.depths v.index) (value_of heap.new r)) }
     ensures head { IfOk result (λ r. IsHead (node_at heap.new.nodes r.index)) }
     ensures there { IfOk result (λ r. r.index < length heap.new.nodes) }
+    ensures variables { heap.new.depths ≡ heap.old.depths }
     ensures grows { Grows heap.old heap.new [] [] }
 {
     let r = heap.var(v)?;
@@ -310,6 +318,7 @@ pub(crate) fn moved_levels(
     ensures levels { IfOk result (λ args. AreLevelsOf names.now base to 0 (map (value_of heap.new) args.items)) }
     ensures count { IfOk result (λ args. length args.items ≡ depth) }
     ensures there { IfOk result (λ args. AllOlder (length heap.new.nodes) args.items) }
+    ensures variables { heap.new.depths ≡ heap.old.depths }
     ensures grows { Grows heap.old heap.new [] [] }
 {
     let mut args = Vec::new(alloc);
@@ -337,6 +346,7 @@ fn moved_var(
     requires deep { 0 < slice_index heap.old.depths v.index }
     ensures moved { IfOk result (λ r. IsMovedVar names.now base to v.index (slice_index heap.old.depths v.index) (value_of heap.new r)) }
     ensures there { IfOk result (λ r. r.index < length heap.new.nodes) }
+    ensures variables { heap.new.depths ≡ heap.old.depths }
     ensures grows { Grows heap.old heap.new [] [] }
 {
     let depth = heap.var_depth(v);
@@ -393,6 +403,7 @@ fn visit_var(
     requires done { AllOlder (length heap.old.nodes) done.old.items }
     ensures steps { OnOk result (Steps (naming names.now to) (record { heap = heap.old; work = work.old.items ++ visit_task node base ∷ []; done = done.old.items }) (record { heap = heap.new; work = work.new.items; done = done.new.items })) }
     ensures done { OnOk result (AllOlder (length heap.new.nodes) done.new.items) }
+    ensures variables { heap.new.depths ≡ heap.old.depths }
     ensures grows { Grows heap.old heap.new [] [] }
 {
     heap.is_sound();
@@ -427,6 +438,7 @@ fn visit(
     requires done { AllOlder (length heap.old.nodes) done.old.items }
     ensures steps { OnOk result (Steps (naming names.now to) (record { heap = heap.old; work = work.old.items ++ visit_task node base ∷ []; done = done.old.items }) (record { heap = heap.new; work = work.new.items; done = done.new.items })) }
     ensures done { OnOk result (AllOlder (length heap.new.nodes) done.new.items) }
+    ensures variables { heap.new.depths ≡ heap.old.depths }
     ensures grows { Grows heap.old heap.new [] [] }
 {
     heap.is_sound();
@@ -478,6 +490,7 @@ pub(crate) fn make_lam(
     requires done { AllOlder (length heap.old.nodes) done.old.items }
     ensures steps { OnOk result ((plan : Plan) (work : List TaskOf) → Steps plan (record { heap = heap.old; work = work ++ lam_task depth ∷ []; done = done.old.items }) (record { heap = heap.new; work = work; done = done.new.items })) }
     ensures done { OnOk result (AllOlder (length heap.new.nodes) done.new.items) }
+    ensures variables { heap.new.depths ≡ heap.old.depths }
     ensures grows { Grows heap.old heap.new [] [] }
 {
     heap.is_sound();
@@ -502,6 +515,7 @@ pub(crate) fn make_app(
     requires done { AllOlder (length heap.old.nodes) done.old.items }
     ensures steps { OnOk result ((plan : Plan) (work : List TaskOf) → Steps plan (record { heap = heap.old; work = work ++ app_task args ∷ []; done = done.old.items }) (record { heap = heap.new; work = work; done = done.new.items })) }
     ensures done { OnOk result (AllOlder (length heap.new.nodes) done.new.items) }
+    ensures variables { heap.new.depths ≡ heap.old.depths }
     ensures grows { Grows heap.old heap.new [] [] }
 {
     heap.is_sound();
@@ -532,6 +546,7 @@ fn step(
     requires done { AllOlder (length heap.old.nodes) done.old.items }
     ensures steps { OnOk result (Steps (naming names.now to) (record { heap = heap.old; work = work.old.items ++ task ∷ []; done = done.old.items }) (record { heap = heap.new; work = work.new.items; done = done.new.items })) }
     ensures done { OnOk result (AllOlder (length heap.new.nodes) done.new.items) }
+    ensures variables { heap.new.depths ≡ heap.old.depths }
     ensures grows { Grows heap.old heap.new [] [] }
 {
     match task {
@@ -564,6 +579,7 @@ pub(crate) fn moved_node(
     requires valid { IsValid heap.old t.index (length names.now) }
     ensures moves { IfOk result (λ r. Moves heap.old names.now to t.index (length names.now) (length names.now) (value_of heap.new r)) }
     ensures there { IfOk result (λ r. r.index < length heap.new.nodes) }
+    ensures variables { heap.new.depths ≡ heap.old.depths }
     ensures grows { Grows heap.old heap.new [] [] }
 {
     heap.is_sound();

@@ -34,6 +34,7 @@ pub(crate) fn settled(
     requires args { AllValidAt heap.old (reverse args.now) depth }
     requires below { AllBelow levels.now depth }
     ensures form { IfOk result (λ w. (u : Term) → IsSpine heap.old depth u head.index levels.now args.now → IsHeadForm heap.new depth u w) }
+    ensures variables { heap.new.depths ≡ heap.old.depths }
     ensures grows { Grows heap.old heap.new [] [] }
 {
     heap.is_sound();
@@ -53,6 +54,7 @@ fn form_of(
     requires there { t < length (terms_of cells.now) }
     requires quotable { IsQuotable heap.old depth (term_at (terms_of cells.now) t) }
     ensures form { IfOk result (λ w. IsHeadForm heap.new depth (term_at (terms_of cells.now) t) w) }
+    ensures variables { heap.new.depths ≡ heap.old.depths }
     ensures grows { Grows heap.old heap.new [] [] }
 {
     heap.is_sound();
@@ -93,6 +95,7 @@ fn lam_form(
     requires quotable { IsQuotable heap.old depth (term_at (terms_of cells.now) t) }
     requires lam { IsAbstraction (term_at (terms_of cells.now) t) }
     ensures form { IfOk result (λ w. (u : Term) → IsUnwound heap.old depth u (term_at (terms_of cells.now) t) args.now → IsHeadForm heap.new depth u w) }
+    ensures variables { heap.new.depths ≡ heap.old.depths }
     ensures grows { Grows heap.old heap.new [] [] }
 {
     heap.is_sound();

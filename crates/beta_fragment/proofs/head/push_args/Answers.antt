@@ -1,4 +1,4 @@
-use Rattle.std.proofs.Common.{◌≡◌, suc, ◌-◌, ◌++◌, ◌∷◌, [], List, length, map, drop, reverse, slice_get, ap, ap₂, sym, ◌∙◌, subst, arith}
+use Rattle.std.proofs.Common.{◌≡◌, suc, ◌-◌, ◌++◌, ◌∷◌, [], List, length, map, drop, reverse, slice_get, ap, ap₂, sym, ◌∙◌, subst, arith, refl}
 use Rattle.level_terms.specs.declared.node.TermId.{TermId}
 use Rattle.level_terms.specs.Graph.{node_at}
 use Rattle.level_terms.specs.Reading.{read}
@@ -20,6 +20,7 @@ loop-i-init c = record {
   reads = sym (ap (λ (ts : List TermId). map (λ a. read c.args.heap.now a.index (renamed c.args.levels.now)) ts ++ all_read c.args.heap.now (reverse c.args.args.now.items))
       (ap (λ k. drop k (args_in (node_at c.args.heap.now.nodes c.args.t.index))) c.requires.count ∙ drop-whole (args_in (node_at c.args.heap.now.nodes c.args.t.index))));
   valid = c.requires.args;
+  variables = refl;
   grows = grows-refl c.args.heap.now [];
 }
 
@@ -64,5 +65,6 @@ loop-i-preserved c =
           ∙ sym (ap (λ (us : List TermId). map (λ a. read c.args.heap.now a.index (renamed c.args.levels.now)) us ++ all_read c.args.heap.now (reverse c.args.args.now.items)) dropped);
       valid = subst (λ us. AllValidAt c.moved_node.new.heap us c.args.depth) (sym order)
           (renamed-valid c.loop-i.heap c.args.levels.now c.args.depth c.arg_of-arg.result.index (value_of c.moved_node.new.heap c.in_ok-r.r) c.in_ok-r.ensures.moves, valid-grown_all c.loop-i.heap c.moved_node.new.heap c.args.depth c.is_sound-in-loop-i.ensures c.moved_node.ensures.grows (reverse c.loop-i.args.items) c.loop-i.invariant.valid);
+      variables = c.moved_node.ensures.variables ∙ c.loop-i.invariant.variables;
       grows = grows-trans c.args.heap.now c.loop-i.heap c.moved_node.new.heap [] [] [] c.loop-i.invariant.grows c.moved_node.ensures.grows;
     }

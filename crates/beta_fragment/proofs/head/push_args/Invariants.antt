@@ -12,6 +12,7 @@ invariant-loop-i l = record {
   within : l.i ≤ length (args_in (node_at l.fn.heap.nodes l.t.index));
   reads : all_read l.heap (reverse l.args.items) ≡ map (λ a. read l.fn.heap a.index (renamed l.levels)) (drop l.i (args_in (node_at l.fn.heap.nodes l.t.index))) ++ all_read l.fn.heap (reverse l.fn.args.items);
   valid : AllValidAt l.heap (reverse l.args.items) l.depth;
+  variables : l.heap.depths ≡ l.fn.heap.depths;
   grows : Grows l.fn.heap l.heap [] [];
 }
 

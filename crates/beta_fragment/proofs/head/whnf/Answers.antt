@@ -1,4 +1,4 @@
-use Rattle.std.proofs.Common.{sym, subst, []}
+use Rattle.std.proofs.Common.{sym, subst, [], refl, ◌∙◌}
 use Rattle.level_terms.specs.Valid.{IsValid}
 use Rattle.level_terms.specs.Reading.{read}
 use Rattle.beta_fragment.specs.Names.{names}
@@ -14,6 +14,7 @@ loop-args-init c = record {
   moves = first-moves c.args.depth c.own-levels.result c.own-levels.ensures.count c.own-levels.ensures.own;
   valid = subst (IsValid c.args.heap.now c.args.t.index) (sym c.own-levels.ensures.count) c.requires;
   there = valid-below c.args.heap.now c.args.t.index c.args.depth c.requires;
+  variables = refl;
   grows = grows-refl c.args.heap.now [];
 }
 
@@ -32,6 +33,7 @@ loop-args-preserved c =
       moves = turn.moves;
       valid = turn.valid;
       there = (turn.less c.args.heap.now c.is_sound.ensures c.loop-args.invariant.grows c.loop-args.invariant.there).0;
+      variables = c.one_turn.ensures.variables ∙ c.loop-args.invariant.variables;
       grows = grows-trans c.args.heap.now c.loop-args.heap c.one_turn.new.heap [] [] [] c.loop-args.invariant.grows c.one_turn.ensures.grows;
     }
 

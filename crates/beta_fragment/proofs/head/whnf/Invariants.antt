@@ -1,4 +1,4 @@
-use Rattle.std.proofs.Common.{◌<◌, length, []}
+use Rattle.std.proofs.Common.{◌≡◌, ◌<◌, length, []}
 use Rattle.level_terms.specs.Reading.{read}
 use Rattle.level_terms.specs.Valid.{IsValid}
 use Rattle.level_terms.specs.Growth.{Grows}
@@ -14,6 +14,7 @@ invariant-loop-args l = record {
   moves : IsMove l.levels l.fixed l.depth;
   valid : IsValid l.heap l.head.index (length l.levels);
   there : l.head.index < length l.fn.heap.nodes;
+  variables : l.heap.depths ≡ l.fn.heap.depths;
   grows : Grows l.fn.heap l.heap [] [];
 }
 

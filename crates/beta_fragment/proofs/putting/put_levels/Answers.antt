@@ -1,4 +1,4 @@
-use Rattle.std.proofs.Common.{◌≡◌, ◌+◌, ◌∷◌, [], List, length, map, ap, sym, ◌∙◌, subst, arith, length-append}
+use Rattle.std.proofs.Common.{◌≡◌, ◌+◌, ◌∷◌, [], List, length, map, ap, sym, ◌∙◌, subst, arith, length-append, refl}
 use Rattle.std.proofs.lemmas.List.{map-append, length-map}
 use Rattle.level_terms.specs.Sound.{AllOlder}
 use Rattle.level_terms.specs.Reading.{read}
@@ -16,6 +16,7 @@ loop-i-init c = record {
   levels = subst (λ (ts : List TermId). ArePutLevels (read c.args.heap.now c.args.put.index) c.args.level 0 (map (value_of c.args.heap.now) ts)) (sym c.new-args.ensures.items) tt;
   count = ap length c.new-args.ensures.items;
   there = subst (AllOlder (length c.args.heap.now.nodes)) (sym c.new-args.ensures.items) tt;
+  variables = refl;
   grows = grows-refl c.args.heap.now [];
 }
 
@@ -48,5 +49,6 @@ loop-i-preserved c =
       there =
           subst (AllOlder (length c.put_level.new.heap.nodes)) (sym c.in_ok-push.ensures.items)
           (older-append (length c.put_level.new.heap.nodes) c.loop-i.args.items (c.in_ok-r.r ∷ []) (older-grown c.loop-i.heap c.put_level.new.heap c.put_level.ensures.grows c.loop-i.args.items c.loop-i.invariant.there) (c.in_ok-r.ensures.there, tt));
+      variables = c.put_level.ensures.variables ∙ c.loop-i.invariant.variables;
       grows = grows-trans c.args.heap.now c.loop-i.heap c.put_level.new.heap [] [] [] c.loop-i.invariant.grows c.put_level.ensures.grows;
     }

@@ -10,5 +10,6 @@ invariant-loop-i l = record {
   levels : ArePutLevels (read l.fn.heap l.put.index) l.level 0 (map (value_of l.heap) l.args.items);
   count : length l.args.items ≡ l.i;
   there : AllOlder (length l.heap.nodes) l.args.items;
+  variables : l.heap.depths ≡ l.fn.heap.depths;
   grows : Grows l.fn.heap l.heap [] [];
 }

@@ -1,4 +1,4 @@
-use Rattle.std.proofs.Common.{ℕ, ◌<◌, ◌+◌, ◌++◌, ◌∷◌, [], List, length, map, reverse, sym, subst, arith}
+use Rattle.std.proofs.Common.{ℕ, ◌<◌, ◌+◌, ◌++◌, ◌∷◌, [], List, length, map, reverse, sym, subst, arith, refl, ◌∙◌}
 use Rattle.level_terms.specs.Sound.{AllOlder}
 use Rattle.level_terms.specs.Reading.{read}
 use Rattle.level_terms.specs.declared.node.TermId.{TermId}
@@ -38,6 +38,7 @@ loop-task-init c = record {
       (subst (λ (ds : List TermId). IsLeading c.args.heap.now (putting (read c.args.heap.now c.args.put.index) c.args.level) c.args.t.index 0 (c.args.level + 1) (record { heap = c.args.heap.now; work = Visit c.args.t 0 ∷ []; done = ds })) (sym c.new-done.ensures.items)
       (c.args.level + 1, c.requires.valid, omega arith, tt, λ x m. m));
   there = subst (AllOlder (length c.args.heap.now.nodes)) (sym c.new-done.ensures.items) tt;
+  variables = refl;
   grows = grows-refl c.args.heap.now [];
 }
 
@@ -71,6 +72,7 @@ loop-task-preserved c =
     record {
       leads = steps.leads c.args.heap.now c.args.t.index 0 (c.args.level + 1) c.is_sound.ensures c.loop-task.invariant.grows leads;
       there = c.in_ok-put_step.ensures.done;
+      variables = c.in_ok-put_step.ensures.variables ∙ c.loop-task.invariant.variables;
       grows = grows-trans c.args.heap.now c.loop-task.heap c.put_step.new.heap [] [] [] c.loop-task.invariant.grows c.in_ok-put_step.ensures.grows;
     }
 

@@ -1,4 +1,4 @@
-use Rattle.std.proofs.Common.{◌+◌, length, [], reverse}
+use Rattle.std.proofs.Common.{◌≡◌, ◌+◌, length, [], reverse}
 use Rattle.level_terms.specs.Sound.{AllOlder}
 use Rattle.level_terms.specs.Reading.{read}
 use Rattle.level_terms.specs.Growth.{Grows}
@@ -10,6 +10,7 @@ abbrev pub invariant-loop-task : goal.invariant-loop-task
 invariant-loop-task l = record {
   leads : IsLeading l.fn.heap (putting (read l.fn.heap l.put.index) l.level) l.fn.t.index 0 (l.level + 1) (record { heap = l.heap; work = l.work.items; done = l.done.items });
   there : AllOlder (length l.heap.nodes) l.done.items;
+  variables : l.heap.depths ≡ l.fn.heap.depths;
   grows : Grows l.fn.heap l.heap [] [];
 }
 

@@ -50,5 +50,6 @@ returns c = record {
       (λ r w. subst (λ (e : ℕ). valid c.quoted_under-2.new.heap.nodes c.quoted_under-2.new.heap.depths r.index e ≡ true) (let z : c.args.depth + 0 ≡ c.args.depth = omega arith in z) w.holds) c.quoted_under-2.ensures.quotes;
   lam = IfOk-weaker c.quoted_under-2.result _ _
       (λ r w a. absurd (no_abstraction (terms_of c.args.cells.now) c.get.result c.in_default.not-Lam (subst IsAbstraction c.get.ensures.term a))) c.quoted_under-2.ensures.quotes;
+  variables = c.quoted_under-2.ensures.variables;
   grows = c.quoted_under-2.ensures.grows;
 }

@@ -1,4 +1,4 @@
-use Rattle.std.proofs.Common.{[], List, arith, subst}
+use Rattle.std.proofs.Common.{[], List, arith, subst, refl, ◌∙◌}
 use Rattle.level_terms.proofs.GrowthLemmas.{grows-refl, grows-trans}
 use Rattle.beta_fragment.specs.declared.quoting.Task.{Task}
 use Rattle.beta_fragment.specs.Cells.{terms_of, term_at}
@@ -14,6 +14,7 @@ returns-in_err-work-clause-grows c = grows-refl c.args.heap.now []
 pub loop-task-init : goal.loop-task-init
 loop-task-init c = record {
   quoting = first-quotes (set_for c.args.heap.now (terms_of c.args.cells.now) c.args.depth c.args.put) c.args.heap.now c.args.t c.args.under c.in_ok-work.work.items c.new-done.result.items c.requires.ready c.in_ok-work.ensures c.new-done.ensures.items;
+  variables = refl;
   grows = grows-refl c.args.heap.now [];
 }
 
@@ -33,6 +34,7 @@ loop-task-preserved c =
     let old = subst (λ (ks : List Task). IsQuoting (set_for c.args.heap.now (terms_of c.args.cells.now) c.args.depth c.args.put) (item c.args.under (term_at (terms_of c.args.cells.now) c.args.t)) c.loop-task.heap ks c.loop-task.done.items) c.in-Some.ensures.items c.loop-task.invariant.quoting in
     record {
       quoting = c.in_ok-step.ensures.steps c.args.heap.now (item c.args.under (term_at (terms_of c.args.cells.now) c.args.t)) (put-grown c.args.heap.now c.loop-task.heap c.args.depth c.args.put c.is_sound.ensures c.loop-task.invariant.grows c.requires.put) old;
+      variables = c.in_ok-step.ensures.variables ∙ c.loop-task.invariant.variables;
       grows = grows-trans c.args.heap.now c.loop-task.heap c.step.new.heap [] [] [] c.loop-task.invariant.grows c.in_ok-step.ensures.grows;
     }
 

@@ -1,4 +1,4 @@
-use Rattle.std.proofs.Common.{[]}
+use Rattle.std.proofs.Common.{◌≡◌, []}
 use Rattle.level_terms.specs.Growth.{Grows}
 use Rattle.beta_fragment.specs.Cells.{terms_of, term_at}
 use Rattle.beta_fragment.specs.Quoting.{IsQuoting, set_for, item, tasks_size}
@@ -7,6 +7,7 @@ use Rattle.beta_fragment.proofs.quoting.quoted_under.Given as goal
 abbrev pub invariant-loop-task : goal.invariant-loop-task
 invariant-loop-task l = record {
   quoting : IsQuoting (set_for l.fn.heap (terms_of l.cells) l.depth l.put) (item l.under (term_at (terms_of l.cells) l.t)) l.heap l.work.items l.done.items;
+  variables : l.heap.depths ≡ l.fn.heap.depths;
   grows : Grows l.fn.heap l.heap [] [];
 }
 

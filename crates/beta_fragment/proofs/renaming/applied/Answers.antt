@@ -38,5 +38,6 @@ returns-in-App c =
           (subst (λ (ts : List TermId). IsAppOf (value_of c.args.heap.now c.in-App.inner) (map (value_of c.args.heap.now) ts) (value_of c.made_app.new.heap r)) (c.as_slice-in-App.ensures.value ∙ c.in_ok-all.ensures) w))
           c.made_app.ensures.app;
       there = c.made_app.ensures.there;
+      variables = c.made_app.ensures.variables;
       grows = c.made_app.ensures.grows;
     }

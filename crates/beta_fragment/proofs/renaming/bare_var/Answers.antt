@@ -1,4 +1,4 @@
-use Rattle.std.proofs.Common.{◌≡◌, ◌-◌, suc, [], arith, subst}
+use Rattle.std.proofs.Common.{◌≡◌, ◌-◌, suc, [], arith, subst, ◌∙◌}
 use Rattle.level_terms.proofs.GrowthLemmas.{grows-trans}
 use Rattle.beta_fragment.specs.Moves.{value_of, IsVarOf}
 use Rattle.beta_fragment.proofs.VarLemmas.{lam-var}
@@ -13,5 +13,6 @@ loop-depth-preserved c = record {
       (subst (λ d. IsVarOf c.args.v.index d (value_of c.loop-depth.heap c.loop-depth.node)) (let q : c.loop-depth.depth ≡ suc (c.loop-depth.depth - 1) = omega (arith, c.loop-depth-test.true) in q) c.loop-depth.invariant.open_at);
   head = c.in_ok-node-2.ensures.head;
   there = c.in_ok-node-2.ensures.there;
+  variables = c.made_lam.ensures.variables ∙ c.loop-depth.invariant.variables;
   grows = grows-trans c.args.heap.now c.loop-depth.heap c.made_lam.new.heap [] [] [] c.loop-depth.invariant.grows c.made_lam.ensures.grows;
 }

@@ -1,4 +1,4 @@
-use Rattle.std.proofs.Common.{◌<◌, length, []}
+use Rattle.std.proofs.Common.{◌≡◌, ◌<◌, length, []}
 use Rattle.level_terms.specs.Graph.{node_at}
 use Rattle.level_terms.specs.Sound.{IsHead}
 use Rattle.level_terms.specs.Growth.{Grows}
@@ -10,6 +10,7 @@ invariant-loop-depth l = record {
   open_at : IsVarOf l.fn.v.index l.depth (value_of l.heap l.node);
   head : IsHead (node_at l.heap.nodes l.node.index);
   there : l.node.index < length l.heap.nodes;
+  variables : l.heap.depths ≡ l.fn.heap.depths;
   grows : Grows l.fn.heap l.heap [] [];
 }
 

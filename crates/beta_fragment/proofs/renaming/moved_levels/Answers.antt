@@ -1,4 +1,4 @@
-use Rattle.std.proofs.Common.{◌≡◌, ◌+◌, ◌∷◌, [], List, length, map, ap, sym, ◌∙◌, subst, arith, length-append}
+use Rattle.std.proofs.Common.{◌≡◌, ◌+◌, ◌∷◌, [], List, length, map, ap, sym, ◌∙◌, subst, arith, length-append, refl}
 use Rattle.std.proofs.lemmas.List.{map-append, length-map}
 use Rattle.level_terms.specs.Sound.{AllOlder}
 use Rattle.level_terms.specs.declared.node.TermId.{TermId}
@@ -13,6 +13,7 @@ loop-level-init c = record {
   levels = subst (λ (ts : List TermId). AreLevelsOf c.args.names.now c.args.base c.args.to 0 (map (value_of c.args.heap.now) ts)) (sym c.new-args.ensures.items) tt;
   count = ap length c.new-args.ensures.items;
   there = subst (AllOlder (length c.args.heap.now.nodes)) (sym c.new-args.ensures.items) tt;
+  variables = refl;
   grows = grows-refl c.args.heap.now [];
 }
 
@@ -40,5 +41,6 @@ loop-level-preserved c =
       there =
           subst (AllOlder (length c.made_level.new.heap.nodes)) (sym c.in_ok-push.ensures.items)
           (older-append (length c.made_level.new.heap.nodes) c.loop-level.args.items (c.in_ok-r.r ∷ []) (older-grown c.loop-level.heap c.made_level.new.heap c.made_level.ensures.grows c.loop-level.args.items c.loop-level.invariant.there) (c.in_ok-r.ensures.there, tt));
+      variables = c.made_level.ensures.variables ∙ c.loop-level.invariant.variables;
       grows = grows-trans c.args.heap.now c.loop-level.heap c.made_level.new.heap [] [] [] c.loop-level.invariant.grows c.made_level.ensures.grows;
     }

@@ -9,5 +9,6 @@ invariant-loop-level l = record {
   levels : AreLevelsOf l.names l.base l.to 0 (map (value_of l.heap) l.args.items);
   count : length l.args.items ≡ l.level;
   there : AllOlder (length l.heap.nodes) l.args.items;
+  variables : l.heap.depths ≡ l.fn.heap.depths;
   grows : Grows l.fn.heap l.heap [] [];
 }

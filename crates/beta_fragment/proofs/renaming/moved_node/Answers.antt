@@ -1,4 +1,4 @@
-use Rattle.std.proofs.Common.{◌∙◌, ℕ, ◌<◌, ◌∷◌, [], List, length, map, reverse, sym, subst, arith}
+use Rattle.std.proofs.Common.{◌∙◌, ℕ, ◌<◌, ◌∷◌, [], List, length, map, reverse, sym, subst, arith, refl}
 use Rattle.level_terms.specs.Sound.{AllOlder}
 use Rattle.level_terms.specs.declared.node.TermId.{TermId}
 use Rattle.level_terms.proofs.GrowthLemmas.{grows-refl, grows-trans}
@@ -33,6 +33,7 @@ loop-task-init c = record {
       (subst (λ (n : ℕ). IsLeading c.args.heap.now (naming c.args.names.now c.args.to) c.args.t.index (length c.args.names.now) (length c.args.names.now) (record { heap = c.args.heap.now; work = Visit c.args.t n ∷ []; done = [] })) (sym c.len-all.ensures)
       (length c.args.names.now, c.requires.valid, omega arith, omega arith, λ x m. m)));
   there = subst (AllOlder (length c.args.heap.now.nodes)) (sym c.new-done.ensures.items) tt;
+  variables = refl;
   grows = grows-refl c.args.heap.now [];
 }
 
@@ -57,6 +58,7 @@ loop-task-preserved c =
     record {
       leads = c.in_ok-step.ensures.steps.leads c.args.heap.now c.args.t.index (length c.args.names.now) (length c.args.names.now) c.is_sound.ensures c.loop-task.invariant.grows leads;
       there = c.in_ok-step.ensures.done;
+      variables = c.in_ok-step.ensures.variables ∙ c.loop-task.invariant.variables;
       grows = grows-trans c.args.heap.now c.loop-task.heap c.step.new.heap [] [] [] c.loop-task.invariant.grows c.in_ok-step.ensures.grows;
     }
 

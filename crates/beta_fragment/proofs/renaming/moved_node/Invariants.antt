@@ -1,4 +1,4 @@
-use Rattle.std.proofs.Common.{length, [], reverse}
+use Rattle.std.proofs.Common.{◌≡◌, length, [], reverse}
 use Rattle.level_terms.specs.Sound.{AllOlder}
 use Rattle.level_terms.specs.Growth.{Grows}
 use Rattle.beta_fragment.specs.Moves.{naming}
@@ -9,6 +9,7 @@ abbrev pub invariant-loop-task : goal.invariant-loop-task
 invariant-loop-task l = record {
   leads : IsLeading l.fn.heap (naming l.names l.to) l.fn.t.index (length l.names) (length l.names) (record { heap = l.heap; work = l.work.items; done = l.done.items });
   there : AllOlder (length l.heap.nodes) l.done.items;
+  variables : l.heap.depths ≡ l.fn.heap.depths;
   grows : Grows l.fn.heap l.heap [] [];
 }
 

@@ -1,4 +1,4 @@
-use Rattle.std.proofs.Common.{◌∙◌, [], reverse, ap, subst, arith}
+use Rattle.std.proofs.Common.{◌∙◌, [], reverse, ap, subst, arith, refl}
 use Rattle.level_terms.proofs.GrowthLemmas.{grows-refl, grows-trans}
 use Rattle.beta_fragment.specs.Cells.{terms_of, term_at}
 use Rattle.beta_fragment.specs.Settled.{IsQuotable}
@@ -9,6 +9,7 @@ pub loop-f-init : goal.loop-f-init
 loop-f-init c = record {
   there = c.requires.there;
   unwound = unwound-first c.args.heap.now c.args.depth (term_at (terms_of c.args.cells.now) c.args.t) c.new-args.result.items c.requires.quotable c.new-args.ensures.items;
+  variables = refl;
   grows = grows-refl c.args.heap.now [];
 }
 
@@ -46,6 +47,7 @@ loop-f-preserved c =
       there = omega (arith, there, low);
       unwound = unwound-next c.loop-f.heap c.quoted.new.heap c.args.depth (term_at (terms_of c.args.cells.now) c.args.t) (term_at (terms_of c.args.cells.now) c.loop-f.head) (term_at (terms_of c.args.cells.now) c.in-App.f) (term_at (terms_of c.args.cells.now) c.in-App.a) c.loop-f.args.items c.push.new.self.items c.in_ok-r-in-App.r
           c.is_sound-in-loop-f.ensures c.quoted.ensures.grows c.loop-f.invariant.unwound c.in-App.ensures.term c.in_ok-push-in-App.ensures.items c.in_ok-r-in-App.ensures.reads c.in_ok-r-in-App.ensures.valid;
+      variables = c.quoted.ensures.variables ∙ c.loop-f.invariant.variables;
       grows = grows-trans c.args.heap.now c.loop-f.heap c.quoted.new.heap [] [] [] c.loop-f.invariant.grows c.quoted.ensures.grows;
     }
 
