@@ -13,7 +13,7 @@ ghost use Rattle.level_terms.specs.Growth.{Grows};
 ghost use Rattle.ref_terms.specs.terms.Term as term;
 ghost use Rattle.ref_terms.specs.terms.Term.{Term};
 ghost use Rattle.ref_terms.specs.unification.Spine.{apply_all};
-ghost use Rattle.beta_fragment.specs.Names.{names as own_names, renamed as renamed_by, AllBelow, AreDistinct};
+ghost use Rattle.beta_fragment.specs.Names.{names as own_names, renamed as renamed_by, AllBelow};
 ghost use Rattle.beta_fragment.specs.Moves.{moved, moved_level, IsMove, value_of, IsAppOf, IsLamOf, IsLevelOf, IsVarOf, AreLevelsOf, IsMovedVar, Moves, Plan, naming};
 ghost use Rattle.beta_fragment.specs.Work.{State, Steps, visits, IsReady};
 ghost use Rattle.level_terms.specs.declared.node.TermId.{TermId as Id};
@@ -50,7 +50,6 @@ pub fn lift(
     requires valid { IsValid heap.old t.index from }
     requires all { from ≤ length names.now }
     requires below { AllBelow names.now to }
-    requires distinct { AreDistinct names.now }
     ensures reads { IfOk result (λ r. read heap.new r.index own_names ≡ read heap.old t.index (renamed_by names.now)) }
     ensures valid { IfOk result (λ r. IsValid heap.new r.index to) }
     ensures variables { heap.new.depths ≡ heap.old.depths }
