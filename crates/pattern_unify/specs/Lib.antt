@@ -1,0 +1,13 @@
+pub mod Answers
+pub mod Binding
+pub mod Bound
+pub mod Closed
+pub mod Equations
+pub mod Keeping
+pub mod Places
+pub mod Searching
+pub mod Sides
+pub mod SpineNames
+pub mod Turns
+pub mod Underway
+pub mod Verdicts

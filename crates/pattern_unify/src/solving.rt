@@ -1,0 +1,87 @@
+//! Unification: the rules' steps, one after the other, until they end.
+
+ghost use Rattle.std.specs.Prelude.{◌≡◌, Bool, [], ◌∷◌, IfOk, IfErr, MatchBool};
+ghost use Rattle.level_terms.specs.Growth.{Grows};
+ghost use Rattle.level_terms.specs.Valid.{IsValid};
+ghost use Rattle.pattern_unify.specs.Answers.{problem_of, AnswersTrue, AnswersFalse, StopsSo};
+ghost use Rattle.pattern_unify.specs.Bound.{LeavesFrozen};
+
+use crate::equation::{Equation, Turn};
+use crate::turning::turn;
+use beta_fragment::UnifyStop;
+use level_terms::{Change, Heap, TermId, VarId};
+use std::alloc::{AllocError, Global};
+use trail::Trail;
+
+/// Makes both terms equal, where assignments of variables that aren't older than the mark do:
+/// the older ones are frozen, and count as constants. It answers whether it did.
+///
+/// `UnifyStop::Fault` comes exactly where the rules come to that fault, and `UnifyStop::Memory` for
+/// want of memory alone. After every answer, undoing to an earlier mark of the heap takes all
+/// changes back.
+pub fn unify_from(
+    alloc: Global,
+    heap: &mut Heap,
+    trail: &mut Trail<Change>,
+    s: TermId,
+    t: TermId,
+    depth: usize,
+    mark: VarId,
+) -> Result<bool, UnifyStop>
+    requires left { IsValid heap.old s.index depth }
+    requires right { IsValid heap.old t.index depth }
+    ensures answer { IfOk result (λ b. MatchBool b
+        (AnswersTrue mark.index heap.old heap.new (problem_of heap.old s.index t.index depth))
+        (AnswersFalse mark.index (problem_of heap.old s.index t.index depth))) }
+    ensures stops { IfErr result (λ stop. StopsSo mark.index (problem_of heap.old s.index t.index depth) stop) }
+    ensures frozen { LeavesFrozen mark.index heap.old heap.new }
+    ensures grows { Grows heap.old heap.new trail.old.entries trail.new.entries }
+{
+    let mut work = only(alloc, s, t, depth)?;
+    while let Some(e) = work.pop() {
+        match turn(alloc, heap, trail, &mut work, e, mark)? {
+            Turn::Goes => {}
+            Turn::Clash => return Ok(false),
+            Turn::Fault(f) => return Err(UnifyStop::Fault(f)),
+        }
+    }
+    Ok(true)
+}
+
+/// The work that is the one equation of both terms.
+fn only(alloc: Global, s: TermId, t: TermId, depth: usize) -> Result<Vec<Equation>, AllocError>
+    ensures { IfOk result (λ work. work.items ≡ record { left = s; right = t; depth = depth } ∷ []) }
+{
+    let mut work = Vec::new(alloc);
+    work.push(Equation {
+        left: s,
+        right: t,
+        depth,
+    })?;
+    Ok(work)
+}
+
+/// Makes both terms equal, by assignments of their variables, where that can be done. It answers
+/// whether it did.
+///
+/// `UnifyStop::Fault` comes exactly where the rules come to that fault, and `UnifyStop::Memory` for
+/// want of memory alone. After every answer, undoing to an earlier mark of the heap takes all
+/// changes back.
+pub fn unify(
+    alloc: Global,
+    heap: &mut Heap,
+    trail: &mut Trail<Change>,
+    s: TermId,
+    t: TermId,
+    depth: usize,
+) -> Result<bool, UnifyStop>
+    requires left { IsValid heap.old s.index depth }
+    requires right { IsValid heap.old t.index depth }
+    ensures answer { IfOk result (λ b. MatchBool b
+        (AnswersTrue 0 heap.old heap.new (problem_of heap.old s.index t.index depth))
+        (AnswersFalse 0 (problem_of heap.old s.index t.index depth))) }
+    ensures stops { IfErr result (λ stop. StopsSo 0 (problem_of heap.old s.index t.index depth) stop) }
+    ensures grows { Grows heap.old heap.new trail.old.entries trail.new.entries }
+{
+    unify_from(alloc, heap, trail, s, t, depth, VarId { index: 0 })
+}
