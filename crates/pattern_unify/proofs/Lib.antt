@@ -25,3 +25,4 @@ pub mod FlexibleTurns
 pub mod OffenceOpened
 pub mod OffenceSpines
 pub mod SearchLemmas
+pub mod ProperReadings

@@ -10,4 +10,5 @@ pub mod Sides
 pub mod SpineNames
 pub mod Turns
 pub mod Underway
+pub mod Unifiers
 pub mod Verdicts
