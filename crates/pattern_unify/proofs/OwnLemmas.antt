@@ -56,7 +56,7 @@ module _ (g : Graph) (m depth t : ℕ) (v : VarId) (sound : IsSound g) (own : Is
   own-reads =
       nodes_read g t (Var v) names sound names-places own.node
       ∙ ap (λ o. variable_reads g v.index o names) own.variable.free
-      ∙ ap (apply_all (At (term.Var v.index))) (ap (λ d. levels d names) own.levels ∙ levels-names depth 0 names (λ i. refl))
+      ∙ ap (apply_all (At (term.Var v.index))) (ap (λ d. levels d names) own.levels ∙ levels-names depth 0 names (λ i. ap names (omega arith)))
 
   pub own-shape : shape m (read g t names) ≡ shape.Flex v.index (map names (names_below depth))
   own-shape =
