@@ -115,3 +115,10 @@ turns-paired g new m v w o q ms ns e work items (Ok r) c d f k =
     (λ bs. ap₂ (λ (x y : Option (List SpineName)). flex_flex m v w x y (equation_at g e) (equations_at g work) (problem_at g (work ++ e ∷ []) bs)) c d)
     (subst (λ (z : List Equation). PairTurn g new v w ms ns z r) f k)
 turns-paired g new m v w o q ms ns e work items (Err z) c d f k = tt
+
+-- a turn by a verdict, whatever the variable, the names and the term
+pub turns-each : (g new : Graph) (v : ℕ) (ns : List ℕ) (t : Term) (w : Verdict) (e : Equation) (work left : List Equation) {E : Type 0} (a : Result Turn E) →
+    IfOk a (λ r. (x : ℕ) (ms : List ℕ) (u : Term) → IsTurn g new (λ bs. by_verdict x ms u (equation_at g e) (equations_at g work) (problem_at g (work ++ e ∷ []) bs) w) left r) →
+    IfOk a (λ r. IsTurn g new (λ bs. by_verdict v ns t (equation_at g e) (equations_at g work) (problem_at g (work ++ e ∷ []) bs) w) left r)
+turns-each g new v ns t w e work left (Ok r) k = k v ns t
+turns-each g new v ns t w e work left (Err x) k = tt

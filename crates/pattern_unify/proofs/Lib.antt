@@ -26,3 +26,4 @@ pub mod OffenceOpened
 pub mod OffenceSpines
 pub mod SearchLemmas
 pub mod ProperReadings
+pub mod OwnLemmas

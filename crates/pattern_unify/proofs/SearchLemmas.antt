@@ -343,11 +343,11 @@ module _ (s : Search) (g h : Graph) (p : Subterm) (work rest work' : List Subter
         omega (arith, before, after, same, fewer)
 
 -- one subterm alone
-pub first-search : (s : Search) (g : Graph) (t : TermId) (work : List Subterm) → s.base ≤ s.base → IsValid g t.index s.base → work ≡ subterm s.base false t ∷ [] →
-    AllSearchable s g (reverse work) × (verdict_on s s.base false (read g t.index names) ≡ first_verdict s g (reverse work))
-first-search s g t work low v e = (
+pub first-search : (s : Search) (g : Graph) (t : TermId) (depth : ℕ) (work : List Subterm) → s.base ≤ depth → IsValid g t.index depth → work ≡ subterm depth false t ∷ [] →
+    AllSearchable s g (reverse work) × (verdict_on s depth false (read g t.index names) ≡ first_verdict s g (reverse work))
+first-search s g t depth work low v e = (
   subst (λ (ps : List Subterm). AllSearchable s g (reverse ps)) (sym e) (v, low, tt),
-  sym (later-none (verdict_on s s.base false (read g t.index names))) ∙ ap (λ (ps : List Subterm). first_verdict s g (reverse ps)) (sym e),
+  sym (later-none (verdict_on s depth false (read g t.index names))) ∙ ap (λ (ps : List Subterm). first_verdict s g (reverse ps)) (sym e),
 )
 
 -- the subterms from an index on

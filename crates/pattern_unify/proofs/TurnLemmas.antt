@@ -84,7 +84,7 @@ abstraction-opens g m e work (Rigid x args) bs w = refl
 abstraction-opens g m e work (Flexible v args) bs w = refl
 
 -- the step on the equation that was put last
-step-last : (g : Graph) (m : ℕ) (work : List Equation) (e : Equation) (bs : List Binding) → step m (problem_at g (work ++ e ∷ []) bs) ≡ rule_at m g e work (shape m (read g e.left.index names)) (shape m (read g e.right.index names)) bs
+pub step-last : (g : Graph) (m : ℕ) (work : List Equation) (e : Equation) (bs : List Binding) → step m (problem_at g (work ++ e ∷ []) bs) ≡ rule_at m g e work (shape m (read g e.left.index names)) (shape m (read g e.right.index names)) bs
 unfolding step
 step-last g m work e bs = ap (λ (es : List problem.Equation). step_at m es (problem_at g (work ++ e ∷ []) bs)) (equations-last g work e)
 
@@ -92,16 +92,13 @@ step-last g m work e bs = ap (λ (es : List problem.Equation). step_at m es (pro
 rule-kept : (g h : Graph) (m : ℕ) (e : Equation) (work : List Equation) (l r : Shape) (bs : List Binding) → IsSound g → Grows g h [] [] → h.depths ≡ g.depths → IsValidEquation g e → AllValidEquations g work → rule_at m h e work l r bs ≡ rule_at m g e work l r bs
 rule-kept g h m e work l r bs sound w d v vs = first-kept (rule m l r) g h e work bs sound w d v vs
 
--- what is seen of both sides decides
-pub step-seen : (f g h : Graph) (m : ℕ) (e : Equation) (work : List Equation) (left right : Side) (bs : List Binding) → IsSound f → IsSound g → Grows f g [] [] → Grows g h [] [] → g.depths ≡ f.depths → h.depths ≡ g.depths →
-    IsValidEquation f e → AllValidEquations f work → shape m (read f e.left.index names) ≡ shape_at g left → IsSideAt g m e.depth left → shape m (read g e.right.index names) ≡ shape_at h right →
-    step m (problem_at f (work ++ e ∷ []) bs) ≡ rule_at m h e work (shape_at h left) (shape_at h right) bs
-step-seen f g h m e work left right bs sound sound' w x d d' v vs l s r =
-    step-last f m work e bs
-    ∙ ap₂ (λ (a b : Shape). rule_at m f e work a b bs)
-    (l ∙ sym (shape-kept g h m e.depth left sound' x s))
-    (ap (shape m) (sym (growth_keeps_readings f g e.right.index names sound w (valid-below f e.right.index e.depth v.1))) ∙ r)
-    ∙ sym (rule-kept f h m e work (shape_at h left) (shape_at h right) bs sound (grows-trans f g h [] [] [] w x) (d' ∙ d) v vs)
+-- so by shapes that are seen later
+pub rule-seen : (g h : Graph) (m : ℕ) (e : Equation) (work : List Equation) (l r l' r' : Shape) (bs : List Binding) → IsSound g → Grows g h [] [] → h.depths ≡ g.depths → IsValidEquation g e → AllValidEquations g work → l ≡ l' → r ≡ r' →
+    rule_at m g e work l r bs ≡ rule_at m h e work l' r' bs
+rule-seen g h m e work l r l' r' bs sound w d v vs p q = ap₂ (λ (a b : Shape). rule_at m g e work a b bs) p q ∙ sym (rule-kept g h m e work l' r' bs sound w d v vs)
+
+pub shape-later : (g h : Graph) (m t depth : ℕ) → IsSound g → Grows g h [] [] → IsValid g t depth → shape m (read g t names) ≡ shape m (read h t names)
+shape-later g h m t depth sound w v = ap (shape m) (sym (growth_keeps_readings g h t names sound w (valid-below g t depth v)))
 
 -- both sides applied to a fresh name
 pub opened-turn : (f g h : Graph) (m : ℕ) (e n : Equation) (work new : List Equation) → IsSound f → IsSound g → Grows f g [] [] → Grows g h [] [] → g.depths ≡ f.depths → h.depths ≡ g.depths →

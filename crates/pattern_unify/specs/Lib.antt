@@ -4,6 +4,7 @@ pub mod Bound
 pub mod Closed
 pub mod Equations
 pub mod Keeping
+pub mod Own
 pub mod Places
 pub mod Searching
 pub mod Sides

@@ -44,3 +44,8 @@ side_by mark (form.Lam t) = Abstraction
 side_by mark (form.Redex t args) = Redex
 side_by mark (form.Rigid h args) = Rigid (Fixed h) args
 side_by mark (form.Flex v args) = variable_by mark v args
+
+-- the head is rigid
+abbrev pub IsRigid : Side → Type 0
+IsRigid (Rigid h args) = Unit {0}
+IsRigid _ = ⊥

@@ -1,25 +1,29 @@
 //! A unification variable against a term, and against another one.
 
-ghost use Rattle.std.specs.Prelude.{◌≡◌, ◌≤◌, ◌∷◌, [], ◌++◌, ℕ, false, List, map, option_map, cond, nat_eq, IfOk, IfSome};
+ghost use Rattle.std.specs.Prelude.{◌≡◌, ◌≤◌, ◌∷◌, [], ◌++◌, ℕ, false, List, Some, map, option_map, cond, nat_eq, IfOk, IfSome};
 ghost use Rattle.level_terms.specs.Graph.{value_in};
 ghost use Rattle.level_terms.specs.Growth.{Grows};
 ghost use Rattle.level_terms.specs.Reading.{read};
 ghost use Rattle.level_terms.specs.Valid.{IsValid};
 ghost use Rattle.ref_terms.specs.terms.Occurs.{occurs};
+ghost use Rattle.ref_terms.specs.terms.Term.{Term};
+ghost use Rattle.ref_terms.specs.unification.Closing.{names_below};
 ghost use Rattle.ref_terms.specs.unification.Offence.{fine};
 ghost use Rattle.ref_terms.specs.unification.Pattern.{pattern_of, of_name};
 ghost use Rattle.ref_terms.specs.unification.Rules.{bind_to, by_verdict as reference_by_verdict, flex_flex, same_variable, two_variables};
 ghost use Rattle.beta_fragment.specs.Names.{names, AllBelow, AreDistinct};
 ghost use Rattle.beta_fragment.specs.HeadForm.{all_read, AllValidAt};
 ghost use Rattle.pattern_unify.specs.Bound.{IsOpen, LeavesFrozen, NamesAmong};
+ghost use Rattle.pattern_unify.specs.declared.offence.Verdict.TheVariants as verdicts;
 ghost use Rattle.pattern_unify.specs.Equations.{equation_at, equations_at, problem_at, IsValidEquation, AllValidEquations};
 ghost use Rattle.pattern_unify.specs.Turns.{IsTurn};
 ghost use Rattle.pattern_unify.specs.Verdicts.{verdict_of, DropsAssignable};
 
+use crate::assigning::assign_over;
 use crate::binding::bind;
 use crate::equation::{Equation, Turn};
 use crate::meeting::{drop_position, keep_agreeing, meet};
-use crate::offence::{Verdict, offence};
+use crate::offence::{Verdict, offence, offence_in_scope};
 use crate::spine::pattern_names;
 use level_terms::{Change, Heap, TermId, VarId};
 use ref_terms::Fault;
@@ -154,6 +158,31 @@ fn by_verdict(
             bind(alloc, heap, trail, v, ns, t, e.depth)?;
             Ok(Turn::Goes)
         }
+        _ => not_bound(alloc, heap, trail, work, e, verdict),
+    }
+}
+
+/// A variable against a term on which this is the verdict, by which it isn't bound to the term.
+fn not_bound(
+    alloc: Global,
+    heap: &mut Heap,
+    trail: &mut Trail<Change>,
+    work: &mut Vec<Equation>,
+    e: Equation,
+    verdict: Verdict,
+) -> Result<Turn, AllocError>
+    requires offends { verdict ≡ verdicts.Fine → ⊥ }
+    requires dropped { DropsAssignable heap.old 0 verdict }
+    requires equation { IsValidEquation heap.old e }
+    requires valid { AllValidEquations heap.old work.old.items }
+    ensures turn { IfOk result (λ r. (v : ℕ) (ns : List ℕ) (u : Term) → IsTurn heap.old heap.new
+        (λ bs. reference_by_verdict v ns u (equation_at heap.old e) (equations_at heap.old work.old.items) (problem_at heap.old (work.old.items ++ e ∷ []) bs) (verdict_of verdict)) work.new.items r) }
+    ensures frozen { (mark : ℕ) → DropsAssignable heap.old mark verdict → LeavesFrozen mark heap.old heap.new }
+    ensures grows { Grows heap.old heap.new trail.old.entries trail.new.entries }
+{
+    heap.is_sound();
+    match verdict {
+        Verdict::Fine => unreachable!(),
         Verdict::Redex => Ok(Turn::Fault(Fault::Redex)),
         Verdict::Scope => Ok(Turn::Fault(Fault::Scope)),
         Verdict::Itself => Ok(Turn::Clash),
@@ -163,6 +192,66 @@ fn by_verdict(
             work.push(e)?;
             Ok(Turn::Goes)
         }
+    }
+}
+
+/// A variable whose spine has the names of all levels in scope, in order, against a term that it
+/// doesn't head, as `against` has it. Its value is the term itself, over these levels.
+pub(crate) fn against_in_scope(
+    alloc: Global,
+    heap: &mut Heap,
+    trail: &mut Trail<Change>,
+    work: &mut Vec<Equation>,
+    e: Equation,
+    mark: VarId,
+    v: VarId,
+    t: TermId,
+) -> Result<Turn, AllocError>
+    requires variable { IsOpen heap.old v.index }
+    requires assignable { mark.index ≤ v.index }
+    requires term { IsValid heap.old t.index e.depth }
+    requires equation { IsValidEquation heap.old e }
+    requires valid { AllValidEquations heap.old work.old.items }
+    ensures turn { IfOk result (λ r. IsTurn heap.old heap.new
+        (λ bs. bind_to mark.index v.index (Some (map of_name (names_below e.depth))) (read heap.old t.index names) (equation_at heap.old e) (equations_at heap.old work.old.items) (problem_at heap.old (work.old.items ++ e ∷ []) bs)) work.new.items r) }
+    ensures frozen { LeavesFrozen mark.index heap.old heap.new }
+    ensures grows { Grows heap.old heap.new trail.old.entries trail.new.entries }
+{
+    heap.is_sound();
+    let verdict = offence_in_scope(alloc, heap, mark, v, t, e.depth)?;
+    by_verdict_in_scope(alloc, heap, trail, work, e, v, t, verdict)
+}
+
+/// A variable whose spine has the names of all levels in scope against a term on which this is the
+/// verdict.
+fn by_verdict_in_scope(
+    alloc: Global,
+    heap: &mut Heap,
+    trail: &mut Trail<Change>,
+    work: &mut Vec<Equation>,
+    e: Equation,
+    v: VarId,
+    t: TermId,
+    verdict: Verdict,
+) -> Result<Turn, AllocError>
+    requires variable { IsOpen heap.old v.index }
+    requires term { IsValid heap.old t.index e.depth }
+    requires absent { verdict_of verdict ≡ fine → occurs v.index (read heap.old t.index names) ≡ false }
+    requires dropped { DropsAssignable heap.old 0 verdict }
+    requires equation { IsValidEquation heap.old e }
+    requires valid { AllValidEquations heap.old work.old.items }
+    ensures turn { IfOk result (λ r. IsTurn heap.old heap.new
+        (λ bs. reference_by_verdict v.index (names_below e.depth) (read heap.old t.index names) (equation_at heap.old e) (equations_at heap.old work.old.items) (problem_at heap.old (work.old.items ++ e ∷ []) bs) (verdict_of verdict)) work.new.items r) }
+    ensures frozen { (mark : ℕ) → mark ≤ v.index → DropsAssignable heap.old mark verdict → LeavesFrozen mark heap.old heap.new }
+    ensures grows { Grows heap.old heap.new trail.old.entries trail.new.entries }
+{
+    heap.is_sound();
+    match verdict {
+        Verdict::Fine => {
+            assign_over(alloc, heap, trail, v, e.depth, t)?;
+            Ok(Turn::Goes)
+        }
+        _ => not_bound(alloc, heap, trail, work, e, verdict),
     }
 }
 

@@ -11,6 +11,7 @@ mod flexible;
 mod keeping;
 mod meeting;
 mod offence;
+mod own;
 mod positions;
 mod rigid;
 mod side;

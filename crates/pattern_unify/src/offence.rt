@@ -1,20 +1,21 @@
 //! The first place at which a term can't be the value of a variable.
 //!
 //! The search keeps a list of the subterms that are still to be looked at, so that depth is bounded
-//! by memory alone. An abstraction is opened with the name of its level: names from the level on at
-//! which the search began are those that the term binds, and none of them is foreign.
+//! by memory alone. An abstraction is opened with the name of its level: names from the search's base
+//! on are those that the term binds, or of levels that are all known, and none of them is foreign.
 
 ghost use Rattle.std.specs.Prelude.{◌≡◌, ◌≤◌, ℕ, suc, List, false, [], ◌++◌, reverse, map, IfOk, OnOk};
 ghost use Rattle.level_terms.specs.Growth.{Grows};
 ghost use Rattle.level_terms.specs.Reading.{read};
 ghost use Rattle.level_terms.specs.Valid.{IsValid};
 ghost use Rattle.ref_terms.specs.terms.Term as term;
+ghost use Rattle.ref_terms.specs.unification.Closing.{names_below};
 ghost use Rattle.ref_terms.specs.unification.Offence.{offence as reference_offence};
 ghost use Rattle.ref_terms.specs.unification.Spine.{apply_all};
 ghost use Rattle.beta_fragment.specs.Names.{names};
 ghost use Rattle.beta_fragment.specs.HeadForm.{AllValidAt, all_read, ReadsAsLam};
 ghost use Rattle.pattern_unify.specs.Bound.{IsOpen};
-ghost use Rattle.pattern_unify.specs.Searching.{is_known, unknown_from, is_fine as says_fine, at_place as place_says, name_says, head_says, spine_says, searching, subterm, LooksAt};
+ghost use Rattle.pattern_unify.specs.Searching.{is_known, unknown_from, is_fine as says_fine, at_place as place_says, name_says, head_says, spine_says, searching, subterm, verdict_on, LooksAt};
 ghost use Rattle.pattern_unify.specs.Verdicts.{verdict_of, DropsAssignable};
 
 use crate::applying::{applied, inner_depth};
@@ -66,6 +67,46 @@ pub(crate) fn offence(
     ensures variables { heap.new.depths ≡ heap.old.depths }
     ensures grows { Grows heap.old heap.new [] [] }
 {
+    search(alloc, heap, mark, x, ns, depth, t, depth)
+}
+
+/// The verdict on a term as the value of a variable whose pattern spine has the names of all levels
+/// below the depth, so that no name is foreign. Variables below the mark are frozen.
+pub(crate) fn offence_in_scope(
+    alloc: Global,
+    heap: &mut Heap,
+    mark: VarId,
+    x: VarId,
+    t: TermId,
+    depth: usize,
+) -> Result<Verdict, AllocError>
+    requires valid { IsValid heap.old t.index depth }
+    ensures verdict { IfOk result (λ r. verdict_of r ≡ reference_offence mark.index x.index (names_below depth) false (read heap.old t.index names)) }
+    ensures dropped { IfOk result (λ r. DropsAssignable heap.new mark.index r) }
+    ensures variables { heap.new.depths ≡ heap.old.depths }
+    ensures grows { Grows heap.old heap.new [] [] }
+{
+    search(alloc, heap, mark, x, &[], 0, t, depth)
+}
+
+/// The verdict on a term, where the names in the list and those from the base on are known.
+fn search(
+    alloc: Global,
+    heap: &mut Heap,
+    mark: VarId,
+    x: VarId,
+    ns: &[usize],
+    base: usize,
+    t: TermId,
+    depth: usize,
+) -> Result<Verdict, AllocError>
+    requires valid { IsValid heap.old t.index depth }
+    requires base { base ≤ depth }
+    ensures verdict { IfOk result (λ r. verdict_of r ≡ verdict_on (searching mark.index x.index ns.now base) depth false (read heap.old t.index names)) }
+    ensures dropped { IfOk result (λ r. DropsAssignable heap.new mark.index r) }
+    ensures variables { heap.new.depths ≡ heap.old.depths }
+    ensures grows { Grows heap.old heap.new [] [] }
+{
     let mut work = Vec::new(alloc);
     work.push(Subterm {
         node: t,
@@ -74,7 +115,7 @@ pub(crate) fn offence(
     })?;
     while let Some(at) = work.pop() {
         heap.is_sound();
-        let verdict = look(alloc, heap, mark, x, ns, depth, at, &mut work)?;
+        let verdict = look(alloc, heap, mark, x, ns, base, at, &mut work)?;
         if !is_fine(verdict) {
             return Ok(verdict);
         }

@@ -1,12 +1,12 @@
 //! What the rules look at in a side of an equation.
 
-ghost use Rattle.std.specs.Prelude.{◌≡◌, [], IfOk};
+ghost use Rattle.std.specs.Prelude.{◌≡◌, [], true, IfOk};
 ghost use Rattle.level_terms.specs.Growth.{Grows};
 ghost use Rattle.level_terms.specs.Reading.{read};
 ghost use Rattle.level_terms.specs.Valid.{IsValid};
 ghost use Rattle.ref_terms.specs.unification.Shape.{shape};
 ghost use Rattle.beta_fragment.specs.Names.{names};
-ghost use Rattle.pattern_unify.specs.Sides.{shape_at, side_by, variable_by, IsSideAt};
+ghost use Rattle.pattern_unify.specs.Sides.{shape_at, side_by, variable_by, IsSideAt, IsRigid};
 
 use beta_fragment::{RigidHead, Whnf, whnf};
 use level_terms::{Heap, TermId, TermIds, VarId};
@@ -72,5 +72,15 @@ fn variable_side(mark: VarId, v: VarId, args: TermIds) -> Side
         Side::Rigid(Head::Frozen(v), args)
     } else {
         Side::Flexible(v, args)
+    }
+}
+
+/// Whether the head is rigid.
+pub(crate) fn is_rigid(side: &Side) -> bool
+    ensures { result ≡ true → IsRigid side.now }
+{
+    match side {
+        Side::Rigid(_, _) => true,
+        _ => false,
     }
 }

@@ -2,19 +2,23 @@
 
 ghost use Rattle.std.specs.Prelude.{◌≡◌, ◌≤◌, ◌+◌, ◌∷◌, ◌++◌, ℕ, [], IfOk};
 ghost use Rattle.level_terms.specs.Growth.{Grows};
+ghost use Rattle.level_terms.specs.Reading.{read};
 ghost use Rattle.ref_terms.specs.unification.Rules.{step};
-ghost use Rattle.ref_terms.specs.unification.Shape.{Abstraction, Rigid, Flex};
+ghost use Rattle.ref_terms.specs.unification.Shape.{shape, Abstraction, Rigid, Flex};
+ghost use Rattle.beta_fragment.specs.Names.{names};
 ghost use Rattle.beta_fragment.specs.HeadForm.{all_read, AllValidAt};
 ghost use Rattle.pattern_unify.specs.Bound.{IsOpen, LeavesFrozen};
 ghost use Rattle.pattern_unify.specs.Equations.{problem_at, IsValidEquation, AllValidEquations};
+ghost use Rattle.pattern_unify.specs.Own.{IsOwn};
 ghost use Rattle.pattern_unify.specs.Sides.{head_at, shape_at, IsSideAt};
 ghost use Rattle.pattern_unify.specs.Turns.{IsTurn, rule_at};
 
 use crate::applying::{applied, inner_depth};
 use crate::equation::{Equation, Turn};
-use crate::flexible::{against, two_flexible};
+use crate::flexible::{against, against_in_scope, two_flexible};
+use crate::own::{own_beside, own_variable};
 use crate::rigid::two_rigid;
-use crate::side::{Head, Side, side_of};
+use crate::side::{Head, Side, is_rigid, side_of};
 use level_terms::{Change, Heap, TermId, VarId};
 use ref_terms::Fault;
 use std::alloc::{AllocError, Global};
@@ -37,10 +41,73 @@ pub(crate) fn turn(
     ensures grows { Grows heap.old heap.new trail.old.entries trail.new.entries }
 {
     heap.is_sound();
-    let left = side_of(alloc, heap, mark, e.left, e.depth)?;
+    match own_variable(heap, mark, e.left, e.depth) {
+        Some(v) => {
+            let right = side_of(alloc, heap, mark, e.right, e.depth)?;
+            after_own(alloc, heap, trail, work, e, mark, v, &right)
+        }
+        None => {
+            let left = side_of(alloc, heap, mark, e.left, e.depth)?;
+            after_left(alloc, heap, trail, work, e, mark, &left)
+        }
+    }
+}
+
+/// Takes the step by what is seen of the right side, where the left one is a variable at its own
+/// depth. Beside a rigid head that is seen without its spine.
+fn after_own(
+    alloc: Global,
+    heap: &mut Heap,
+    trail: &mut Trail<Change>,
+    work: &mut Vec<Equation>,
+    e: Equation,
+    mark: VarId,
+    v: VarId,
+    right: &Side,
+) -> Result<Turn, AllocError>
+    requires own { IsOwn heap.old mark.index e.depth e.left.index v }
+    requires right { IsSideAt heap.old mark.index e.depth right.now }
+    requires equation { IsValidEquation heap.old e }
+    requires valid { AllValidEquations heap.old work.old.items }
+    ensures turn { IfOk result (λ r. IsTurn heap.old heap.new
+        (λ bs. rule_at mark.index heap.old e work.old.items (shape mark.index (read heap.old e.left.index names)) (shape_at heap.old right.now) bs) work.new.items r) }
+    ensures frozen { LeavesFrozen mark.index heap.old heap.new }
+    ensures grows { Grows heap.old heap.new trail.old.entries trail.new.entries }
+{
     heap.is_sound();
-    let right = side_of(alloc, heap, mark, e.right, e.depth)?;
-    by_sides(alloc, heap, trail, work, e, mark, &left, &right)
+    if is_rigid(right) {
+        return against_in_scope(alloc, heap, trail, work, e, mark, v, e.right);
+    }
+    let left = side_of(alloc, heap, mark, e.left, e.depth)?;
+    by_sides(alloc, heap, trail, work, e, mark, &left, right)
+}
+
+/// Takes the step by what is seen of the left side.
+fn after_left(
+    alloc: Global,
+    heap: &mut Heap,
+    trail: &mut Trail<Change>,
+    work: &mut Vec<Equation>,
+    e: Equation,
+    mark: VarId,
+    left: &Side,
+) -> Result<Turn, AllocError>
+    requires left { IsSideAt heap.old mark.index e.depth left.now }
+    requires equation { IsValidEquation heap.old e }
+    requires valid { AllValidEquations heap.old work.old.items }
+    ensures turn { IfOk result (λ r. IsTurn heap.old heap.new
+        (λ bs. rule_at mark.index heap.old e work.old.items (shape_at heap.old left.now) (shape mark.index (read heap.old e.right.index names)) bs) work.new.items r) }
+    ensures frozen { LeavesFrozen mark.index heap.old heap.new }
+    ensures grows { Grows heap.old heap.new trail.old.entries trail.new.entries }
+{
+    heap.is_sound();
+    match own_beside(heap, mark, left, e.right, e.depth) {
+        Some(w) => against_in_scope(alloc, heap, trail, work, e, mark, w, e.left),
+        None => {
+            let right = side_of(alloc, heap, mark, e.right, e.depth)?;
+            by_sides(alloc, heap, trail, work, e, mark, left, &right)
+        }
+    }
 }
 
 /// Takes the step by what is seen of both sides.

@@ -1,13 +1,8 @@
-use Rattle.std.proofs.Common.{List, ◌++◌, ◌∷◌, [], ap}
+use Rattle.std.proofs.Common.{ap}
 use Rattle.level_terms.specs.Reading.{read}
-use Rattle.level_terms.proofs.GrowthLemmas.{grows-refl}
-use Rattle.ref_terms.specs.unification.Problem.{Binding}
-use Rattle.ref_terms.specs.unification.Rules.{headed_by_name, by_verdict as reference_by_verdict}
-use Rattle.ref_terms.specs.unification.Spine.{head_of}
 use Rattle.beta_fragment.specs.Names.{names}
-use Rattle.pattern_unify.specs.Equations.{equation_at, equations_at, problem_at}
 use Rattle.pattern_unify.specs.Verdicts.{verdict_of}
-use Rattle.pattern_unify.proofs.FlexibleTurns.{binds, drops}
+use Rattle.pattern_unify.proofs.FlexibleTurns.{binds, turns-each}
 use Rattle.pattern_unify.proofs.flexible.by_verdict.Goals as goal
 
 pub returns-in_ok-bind-in-Fine-clause-turn : goal.returns-in_ok-bind-in-Fine-clause-turn
@@ -15,28 +10,6 @@ returns-in_ok-bind-in-Fine-clause-turn c =
     binds c.args.heap.now c.bind.new.heap c.args.trail.now.entries c.bind.new.trail.entries c.args.v.index c.args.ns.now (read c.args.heap.now c.args.t.index names) c.args.work.now.items c.args.e (verdict_of c.args.verdict)
     c.is_sound.ensures c.bind.ensures.grows (ap verdict_of c.in-Fine.is) c.in_ok-bind-in-Fine.ensures.bound c.bind.ensures.variables c.requires.valid
 
-pub returns-in-Redex-clause-grows : goal.returns-in-Redex-clause-grows
-returns-in-Redex-clause-grows c = grows-refl c.args.heap.now c.args.trail.now.entries
-
-pub returns-in-Scope-clause-grows : goal.returns-in-Scope-clause-grows
-returns-in-Scope-clause-grows c = grows-refl c.args.heap.now c.args.trail.now.entries
-
-pub returns-in-Itself-clause-turn : goal.returns-in-Itself-clause-turn
-returns-in-Itself-clause-turn c = (
-  headed_by_name (head_of (read c.args.heap.now c.args.t.index names)),
-  λ (bs : List Binding). ap
-      (λ w. reference_by_verdict c.args.v.index c.args.ns.now (read c.args.heap.now c.args.t.index names) (equation_at c.args.heap.now c.args.e) (equations_at c.args.heap.now c.args.work.now.items) (problem_at c.args.heap.now (c.args.work.now.items ++ c.args.e ∷ []) bs) (verdict_of w))
-      c.in-Itself.is,
-)
-
-pub returns-in-Itself-clause-grows : goal.returns-in-Itself-clause-grows
-returns-in-Itself-clause-grows c = grows-refl c.args.heap.now c.args.trail.now.entries
-
-pub returns-in-Foreign-clause-grows : goal.returns-in-Foreign-clause-grows
-returns-in-Foreign-clause-grows c = grows-refl c.args.heap.now c.args.trail.now.entries
-
-pub returns-in_ok-push-in-Dropped-clause-turn : goal.returns-in_ok-push-in-Dropped-clause-turn
-returns-in_ok-push-in-Dropped-clause-turn c =
-    drops c.args.heap.now c.drop_position.new.heap c.args.trail.now.entries c.drop_position.new.trail.entries c.args.v.index c.args.ns.now (read c.args.heap.now c.args.t.index names) c.args.work.now.items c.push.new.self.items c.args.e (verdict_of c.args.verdict)
-    c.in-Dropped.other.index c.in-Dropped.position c.in-Dropped.arity c.is_sound.ensures c.drop_position.ensures.grows (ap verdict_of c.in-Dropped.is) c.in_ok-drop_position-in-Dropped.ensures.bound c.in_ok-drop_position-in-Dropped.ensures.variables
-    c.requires.valid c.requires.equation c.in_ok-push-in-Dropped.ensures.items
+pub returns-in_default-clause-turn : goal.returns-in_default-clause-turn
+returns-in_default-clause-turn c =
+    turns-each c.args.heap.now c.not_bound.new.heap c.args.v.index c.args.ns.now (read c.args.heap.now c.args.t.index names) (verdict_of c.args.verdict) c.args.e c.args.work.now.items c.not_bound.new.work.items c.not_bound.result c.not_bound.ensures.turn

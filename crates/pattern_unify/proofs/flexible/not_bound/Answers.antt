@@ -1,0 +1,38 @@
+use Rattle.std.proofs.Common.{List, ◌++◌, ◌∷◌, [], ap}
+use Rattle.level_terms.proofs.GrowthLemmas.{grows-refl}
+use Rattle.ref_terms.specs.unification.Problem.{Binding}
+use Rattle.ref_terms.specs.unification.Rules.{headed_by_name, by_verdict as reference_by_verdict}
+use Rattle.ref_terms.specs.unification.Spine.{head_of}
+use Rattle.pattern_unify.specs.Equations.{equation_at, equations_at, problem_at}
+use Rattle.pattern_unify.specs.Verdicts.{verdict_of}
+use Rattle.pattern_unify.proofs.FlexibleTurns.{drops}
+use Rattle.pattern_unify.proofs.flexible.not_bound.Goals as goal
+
+pub unreachable-requires : goal.unreachable-requires
+unreachable-requires c = absurd (c.requires.offends c.in-Fine.is)
+
+pub returns-in-Redex-clause-grows : goal.returns-in-Redex-clause-grows
+returns-in-Redex-clause-grows c = grows-refl c.args.heap.now c.args.trail.now.entries
+
+pub returns-in-Scope-clause-grows : goal.returns-in-Scope-clause-grows
+returns-in-Scope-clause-grows c = grows-refl c.args.heap.now c.args.trail.now.entries
+
+pub returns-in-Itself-clause-turn : goal.returns-in-Itself-clause-turn
+returns-in-Itself-clause-turn c v ns u = (
+  headed_by_name (head_of u),
+  λ (bs : List Binding). ap
+      (λ w. reference_by_verdict v ns u (equation_at c.args.heap.now c.args.e) (equations_at c.args.heap.now c.args.work.now.items) (problem_at c.args.heap.now (c.args.work.now.items ++ c.args.e ∷ []) bs) (verdict_of w))
+      c.in-Itself.is,
+)
+
+pub returns-in-Itself-clause-grows : goal.returns-in-Itself-clause-grows
+returns-in-Itself-clause-grows c = grows-refl c.args.heap.now c.args.trail.now.entries
+
+pub returns-in-Foreign-clause-grows : goal.returns-in-Foreign-clause-grows
+returns-in-Foreign-clause-grows c = grows-refl c.args.heap.now c.args.trail.now.entries
+
+pub returns-in_ok-push-in-Dropped-clause-turn : goal.returns-in_ok-push-in-Dropped-clause-turn
+returns-in_ok-push-in-Dropped-clause-turn c v ns u =
+    drops c.args.heap.now c.drop_position.new.heap c.args.trail.now.entries c.drop_position.new.trail.entries v ns u c.args.work.now.items c.push.new.self.items c.args.e (verdict_of c.args.verdict)
+    c.in-Dropped.other.index c.in-Dropped.position c.in-Dropped.arity c.is_sound.ensures c.drop_position.ensures.grows (ap verdict_of c.in-Dropped.is) c.in_ok-drop_position-in-Dropped.ensures.bound c.in_ok-drop_position-in-Dropped.ensures.variables
+    c.requires.valid c.requires.equation c.in_ok-push-in-Dropped.ensures.items
