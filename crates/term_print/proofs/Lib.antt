@@ -8,4 +8,3 @@ pub mod StepLemmas
 pub mod LookLemmas
 pub mod PrintLemmas
 pub mod SequentLemmas
-pub mod BuildLemmas

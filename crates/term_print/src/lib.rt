@@ -16,6 +16,3 @@ mod step;
 pub use namer::Namer;
 pub use print::print_term;
 pub use sequent::print_sequent;
-
-#[cfg(test)]
-mod tests;

@@ -1,6 +1,0 @@
-use Rattle.std.proofs.Common.{◌≤◌, take}
-use Rattle.std.specs.List.{All}
-use Rattle.term_print.proofs.tests.deepest.Given as goal
-
-abbrev pub invariant-loop-item : goal.invariant-loop-item
-invariant-loop-item l = All (λ it. it.least ≤ l.most) (take l.item-index l.items)

@@ -1,0 +1,11 @@
+//! Tests over terms in the heap, which words make: printed forms, and unification.
+//!
+//! The crate has tests alone. They cross the crates below it, and each table has a line for a case.
+#![tactic(auto)]
+
+#[cfg(test)]
+mod builder;
+#[cfg(test)]
+mod printing;
+#[cfg(test)]
+mod unifying;
