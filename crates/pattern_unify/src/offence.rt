@@ -108,19 +108,22 @@ fn search(
     ensures grows { Grows heap.old heap.new [] [] }
 {
     let mut work = Vec::new(alloc);
-    work.push(Subterm {
+    let mut at = Subterm {
         node: t,
         depth,
         loose: false,
-    })?;
-    while let Some(at) = work.pop() {
+    };
+    loop {
         heap.is_sound();
         let verdict = look(alloc, heap, mark, x, ns, base, at, &mut work)?;
         if !is_fine(verdict) {
             return Ok(verdict);
         }
+        match work.pop() {
+            Some(next) => at = next,
+            None => return Ok(Verdict::Fine),
+        }
     }
-    Ok(Verdict::Fine)
 }
 
 /// Looks at the head of a subterm, and puts what it stands before onto the work list.

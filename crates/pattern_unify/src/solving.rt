@@ -38,28 +38,22 @@ pub fn unify_from(
     ensures frozen { LeavesFrozen mark.index heap.old heap.new }
     ensures grows { Grows heap.old heap.new trail.old.entries trail.new.entries }
 {
-    let mut work = only(alloc, s, t, depth)?;
-    while let Some(e) = work.pop() {
+    let mut work = Vec::new(alloc);
+    let mut e = Equation {
+        left: s,
+        right: t,
+        depth,
+    };
+    loop {
         match turn(alloc, heap, trail, &mut work, e, mark)? {
-            Turn::Goes => {}
+            Turn::Goes => match work.pop() {
+                Some(next) => e = next,
+                None => return Ok(true),
+            },
             Turn::Clash => return Ok(false),
             Turn::Fault(f) => return Err(UnifyStop::Fault(f)),
         }
     }
-    Ok(true)
-}
-
-/// The work that is the one equation of both terms.
-fn only(alloc: Global, s: TermId, t: TermId, depth: usize) -> Result<Vec<Equation>, AllocError>
-    ensures { IfOk result (λ work. work.items ≡ record { left = s; right = t; depth = depth } ∷ []) }
-{
-    let mut work = Vec::new(alloc);
-    work.push(Equation {
-        left: s,
-        right: t,
-        depth,
-    })?;
-    Ok(work)
 }
 
 /// Makes both terms equal, by assignments of their variables, where that can be done. It answers

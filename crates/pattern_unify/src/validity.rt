@@ -29,15 +29,18 @@ pub(crate) fn is_valid_at(
     heap.is_sound();
     let innermost = depth.checked_sub(1);
     let mut work = Vec::new(alloc);
-    work.push(Place { node: t, innermost })?;
-    while let Some(place) = work.pop() {
+    let mut place = Place { node: t, innermost };
+    loop {
         let node = heap.view(place.node);
         if !is_own_valid(heap, place) {
             return Ok(false);
         }
         push_parts(&mut work, node, place.innermost)?;
+        match work.pop() {
+            Some(next) => place = next,
+            None => return Ok(true),
+        }
     }
-    Ok(true)
 }
 
 /// Whether what stands at the node itself is in scope.

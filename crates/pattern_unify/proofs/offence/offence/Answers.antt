@@ -1,4 +1,4 @@
-use Rattle.std.proofs.Common.{◌≡◌, false, List, ℕ, IfOk, ap, subst}
+use Rattle.std.proofs.Common.{◌≡◌, false, List, ℕ, IfOk, subst}
 use Rattle.level_terms.specs.Reading.{read}
 use Rattle.ref_terms.specs.unification.Offence.{offence}
 use Rattle.beta_fragment.specs.Names.{names}

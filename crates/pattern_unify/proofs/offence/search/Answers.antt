@@ -1,19 +1,16 @@
-use Rattle.std.proofs.Common.{◌≡◌, ◌∙◌, ◌++◌, [], ◌∷◌, false, List, ap, sym, refl, arith, reverse}
+use Rattle.std.proofs.Common.{◌≡◌, ◌<◌, subst, ◌∙◌, ◌++◌, [], ◌∷◌, false, List, ap, sym, refl, arith, reverse}
 use Rattle.level_terms.proofs.GrowthLemmas.{grows-refl, grows-trans}
 use Rattle.beta_fragment.proofs.SplitLemmas.{empty-list}
 use Rattle.pattern_unify.specs.declared.offence.Subterm.{Subterm}
 use Rattle.pattern_unify.specs.declared.offence.Verdict.TheVariants.{Fine}
-use Rattle.pattern_unify.specs.Searching.{searching, subterm, first_verdict}
+use Rattle.pattern_unify.specs.Searching.{searching, subterm, first_verdict, AllSearchable, search_size}
 use Rattle.pattern_unify.proofs.SearchLemmas.{first-search, next-valid, next-deep, turn-searchable, turn-fine, turn-found, turn-less}
 use Rattle.pattern_unify.proofs.offence.search.Goals as goal
 
-pub returns-in_err-push-clause-grows : goal.returns-in_err-push-clause-grows
-returns-in_err-push-clause-grows c = grows-refl c.args.heap.now []
-
-pub loop-at-init : goal.loop-at-init
-loop-at-init c =
-    let one : c.push.new.self.items ≡ subterm c.args.depth false c.args.t ∷ [] = c.in_ok-push.ensures.items ∙ ap (λ (zs : List Subterm). zs ++ subterm c.args.depth false c.args.t ∷ []) c.new-work.ensures.items in
-    let first = first-search (searching c.args.mark.index c.args.x.index c.args.ns.now c.args.base) c.args.heap.now c.args.t c.args.depth c.push.new.self.items c.requires.base c.requires.valid one in
+pub loop-work-init : goal.loop-work-init
+loop-work-init c =
+    let one : c.new-work.result.items ++ subterm c.args.depth false c.args.t ∷ [] ≡ subterm c.args.depth false c.args.t ∷ [] = ap (λ (zs : List Subterm). zs ++ subterm c.args.depth false c.args.t ∷ []) c.new-work.ensures.items in
+    let first = first-search (searching c.args.mark.index c.args.x.index c.args.ns.now c.args.base) c.args.heap.now c.args.t c.args.depth (c.new-work.result.items ++ subterm c.args.depth false c.args.t ∷ []) c.requires.base c.requires.valid one in
     record {
       searchable = first.0;
       verdict = first.1;
@@ -23,54 +20,58 @@ loop-at-init c =
 
 pub look-requires-clause-valid : goal.look-requires-clause-valid
 look-requires-clause-valid c =
-    next-valid (searching c.args.mark.index c.args.x.index c.args.ns.now c.args.base) c.loop-at.heap c.loop-at.heap c.in-Some.at c.loop-at.work.items c.pop.new.self.items c.pop.new.self.items Fine c.is_sound.ensures (grows-refl c.loop-at.heap []) c.in-Some.ensures.items c.loop-at.invariant.searchable
+    next-valid (searching c.args.mark.index c.args.x.index c.args.ns.now c.args.base) c.loop-work.heap c.loop-work.heap c.loop-work.at (c.loop-work.work.items ++ c.loop-work.at ∷ []) c.loop-work.work.items c.loop-work.work.items Fine c.is_sound.ensures (grows-refl c.loop-work.heap []) refl c.loop-work.invariant.searchable
 
 pub look-requires-clause-base : goal.look-requires-clause-base
 look-requires-clause-base c =
-    next-deep (searching c.args.mark.index c.args.x.index c.args.ns.now c.args.base) c.loop-at.heap c.loop-at.heap c.in-Some.at c.loop-at.work.items c.pop.new.self.items c.pop.new.self.items Fine c.is_sound.ensures (grows-refl c.loop-at.heap []) c.in-Some.ensures.items c.loop-at.invariant.searchable
+    next-deep (searching c.args.mark.index c.args.x.index c.args.ns.now c.args.base) c.loop-work.heap c.loop-work.heap c.loop-work.at (c.loop-work.work.items ++ c.loop-work.at ∷ []) c.loop-work.work.items c.loop-work.work.items Fine c.is_sound.ensures (grows-refl c.loop-work.heap []) refl c.loop-work.invariant.searchable
 
 pub returns-in_err-verdict-clause-variables : goal.returns-in_err-verdict-clause-variables
-returns-in_err-verdict-clause-variables c = c.look.ensures.variables ∙ c.loop-at.invariant.variables
+returns-in_err-verdict-clause-variables c = c.look.ensures.variables ∙ c.loop-work.invariant.variables
 
 pub returns-in_err-verdict-clause-grows : goal.returns-in_err-verdict-clause-grows
-returns-in_err-verdict-clause-grows c = grows-trans c.args.heap.now c.loop-at.heap c.look.new.heap [] [] [] c.loop-at.invariant.grows c.look.ensures.grows
+returns-in_err-verdict-clause-grows c = grows-trans c.args.heap.now c.loop-work.heap c.look.new.heap [] [] [] c.loop-work.invariant.grows c.look.ensures.grows
 
 pub returns-then-not-is_fine-clause-verdict : goal.returns-then-not-is_fine-clause-verdict
 returns-then-not-is_fine-clause-verdict c =
-    let found = turn-found (searching c.args.mark.index c.args.x.index c.args.ns.now c.args.base) c.loop-at.heap c.look.new.heap c.in-Some.at c.loop-at.work.items c.pop.new.self.items c.look.new.work.items c.in_ok-verdict.verdict c.is_sound.ensures c.look.ensures.grows c.in-Some.ensures.items c.loop-at.invariant.searchable c.in_ok-verdict.ensures.looks (sym c.is_fine.ensures ∙ c.if-not-is_fine.true) in
+    let found = turn-found (searching c.args.mark.index c.args.x.index c.args.ns.now c.args.base) c.loop-work.heap c.look.new.heap c.loop-work.at (c.loop-work.work.items ++ c.loop-work.at ∷ []) c.loop-work.work.items c.look.new.work.items c.in_ok-verdict.verdict c.is_sound.ensures c.look.ensures.grows refl c.loop-work.invariant.searchable c.in_ok-verdict.ensures.looks (sym c.is_fine.ensures ∙ c.if-not-is_fine.true) in
     sym
-    (c.loop-at.invariant.verdict
+    (c.loop-work.invariant.verdict
     ∙ found)
 
 pub returns-then-not-is_fine-clause-variables : goal.returns-then-not-is_fine-clause-variables
-returns-then-not-is_fine-clause-variables c = c.look.ensures.variables ∙ c.loop-at.invariant.variables
+returns-then-not-is_fine-clause-variables c = c.look.ensures.variables ∙ c.loop-work.invariant.variables
 
 pub returns-then-not-is_fine-clause-grows : goal.returns-then-not-is_fine-clause-grows
-returns-then-not-is_fine-clause-grows c = grows-trans c.args.heap.now c.loop-at.heap c.look.new.heap [] [] [] c.loop-at.invariant.grows c.look.ensures.grows
+returns-then-not-is_fine-clause-grows c = grows-trans c.args.heap.now c.loop-work.heap c.look.new.heap [] [] [] c.loop-work.invariant.grows c.look.ensures.grows
 
-pub loop-at-smaller : goal.loop-at-smaller
-loop-at-smaller c =
-    turn-less (searching c.args.mark.index c.args.x.index c.args.ns.now c.args.base) c.loop-at.heap c.look.new.heap c.in-Some.at c.loop-at.work.items c.pop.new.self.items c.look.new.work.items c.in_ok-verdict.verdict c.is_sound.ensures c.look.ensures.grows c.in-Some.ensures.items c.loop-at.invariant.searchable c.in_ok-verdict.ensures.looks
+pub loop-work-smaller : goal.loop-work-smaller
+loop-work-smaller c =
+    subst (λ (ps : List Subterm). search_size c.look.new.heap (reverse ps) < search_size c.loop-work.heap (reverse (c.loop-work.work.items ++ c.loop-work.at ∷ []))) c.in-Some.ensures.items
+    (turn-less (searching c.args.mark.index c.args.x.index c.args.ns.now c.args.base) c.loop-work.heap c.look.new.heap c.loop-work.at (c.loop-work.work.items ++ c.loop-work.at ∷ []) c.loop-work.work.items c.look.new.work.items c.in_ok-verdict.verdict c.is_sound.ensures c.look.ensures.grows refl c.loop-work.invariant.searchable c.in_ok-verdict.ensures.looks)
 
-pub loop-at-preserved : goal.loop-at-preserved
-loop-at-preserved c =
-    let next = turn-fine (searching c.args.mark.index c.args.x.index c.args.ns.now c.args.base) c.loop-at.heap c.look.new.heap c.in-Some.at c.loop-at.work.items c.pop.new.self.items c.look.new.work.items c.in_ok-verdict.verdict c.is_sound.ensures c.look.ensures.grows c.in-Some.ensures.items c.loop-at.invariant.searchable c.in_ok-verdict.ensures.looks (sym c.is_fine.ensures ∙ c.if-not-is_fine.false) in
+pub loop-work-preserved : goal.loop-work-preserved
+loop-work-preserved c =
+    let next = turn-fine (searching c.args.mark.index c.args.x.index c.args.ns.now c.args.base) c.loop-work.heap c.look.new.heap c.loop-work.at (c.loop-work.work.items ++ c.loop-work.at ∷ []) c.loop-work.work.items c.look.new.work.items c.in_ok-verdict.verdict c.is_sound.ensures c.look.ensures.grows refl c.loop-work.invariant.searchable c.in_ok-verdict.ensures.looks (sym c.is_fine.ensures ∙ c.if-not-is_fine.false) in
     record {
-      searchable = turn-searchable (searching c.args.mark.index c.args.x.index c.args.ns.now c.args.base) c.loop-at.heap c.look.new.heap c.in-Some.at c.loop-at.work.items c.pop.new.self.items c.look.new.work.items c.in_ok-verdict.verdict c.is_sound.ensures c.look.ensures.grows c.in-Some.ensures.items c.loop-at.invariant.searchable c.in_ok-verdict.ensures.looks;
-      verdict = c.loop-at.invariant.verdict ∙ next;
-      variables = c.look.ensures.variables ∙ c.loop-at.invariant.variables;
-      grows = grows-trans c.args.heap.now c.loop-at.heap c.look.new.heap [] [] [] c.loop-at.invariant.grows c.look.ensures.grows;
+      searchable = subst (λ (ps : List Subterm). AllSearchable (searching c.args.mark.index c.args.x.index c.args.ns.now c.args.base) c.look.new.heap (reverse ps)) c.in-Some.ensures.items
+          (turn-searchable (searching c.args.mark.index c.args.x.index c.args.ns.now c.args.base) c.loop-work.heap c.look.new.heap c.loop-work.at (c.loop-work.work.items ++ c.loop-work.at ∷ []) c.loop-work.work.items c.look.new.work.items c.in_ok-verdict.verdict c.is_sound.ensures c.look.ensures.grows refl c.loop-work.invariant.searchable c.in_ok-verdict.ensures.looks);
+      verdict = c.loop-work.invariant.verdict ∙ next ∙ ap (λ (ps : List Subterm). first_verdict (searching c.args.mark.index c.args.x.index c.args.ns.now c.args.base) c.look.new.heap (reverse ps)) c.in-Some.ensures.items;
+      variables = c.look.ensures.variables ∙ c.loop-work.invariant.variables;
+      grows = grows-trans c.args.heap.now c.loop-work.heap c.look.new.heap [] [] [] c.loop-work.invariant.grows c.look.ensures.grows;
     }
 
-pub returns-clause-verdict : goal.returns-clause-verdict
-returns-clause-verdict c =
-    let none = empty-list c.loop-at.work.items (omega (arith, c.loop-at.work.ok, c.in_default.ensures.cases.0)) in
+pub returns-in-None-clause-verdict : goal.returns-in-None-clause-verdict
+returns-in-None-clause-verdict c =
+    let none = empty-list c.look.new.work.items (omega (arith, c.look.new.work.ok, c.in-None.ensures.cases.0)) in
+    let next = turn-fine (searching c.args.mark.index c.args.x.index c.args.ns.now c.args.base) c.loop-work.heap c.look.new.heap c.loop-work.at (c.loop-work.work.items ++ c.loop-work.at ∷ []) c.loop-work.work.items c.look.new.work.items c.in_ok-verdict.verdict c.is_sound.ensures c.look.ensures.grows refl c.loop-work.invariant.searchable c.in_ok-verdict.ensures.looks (sym c.is_fine.ensures ∙ c.if-not-is_fine.false) in
     sym
-    (c.loop-at.invariant.verdict
-    ∙ ap (λ (ps : List Subterm). first_verdict (searching c.args.mark.index c.args.x.index c.args.ns.now c.args.base) c.loop-at.heap (reverse ps)) none)
+    (c.loop-work.invariant.verdict
+    ∙ next
+    ∙ ap (λ (ps : List Subterm). first_verdict (searching c.args.mark.index c.args.x.index c.args.ns.now c.args.base) c.look.new.heap (reverse ps)) none)
 
-pub returns-clause-variables : goal.returns-clause-variables
-returns-clause-variables c = c.loop-at.invariant.variables
+pub returns-in-None-clause-variables : goal.returns-in-None-clause-variables
+returns-in-None-clause-variables c = c.look.ensures.variables ∙ c.loop-work.invariant.variables
 
-pub returns-clause-grows : goal.returns-clause-grows
-returns-clause-grows c = c.loop-at.invariant.grows
+pub returns-in-None-clause-grows : goal.returns-in-None-clause-grows
+returns-in-None-clause-grows c = grows-trans c.args.heap.now c.loop-work.heap c.look.new.heap [] [] [] c.loop-work.invariant.grows c.look.ensures.grows
