@@ -25,6 +25,7 @@ use crate::answer::{RigidHead, Whnf};
 use crate::glance::{Readiness, bare_var_of, is_abstraction, looked_at};
 use crate::levels::Levels;
 use crate::renaming::{made_lam, moved_levels, moved_node, sum_of};
+use crate::rigid_form::rigid_application;
 use crate::settling::settled;
 use level_terms::{Heap, Node, TermId, TermIds, VarId};
 use std::alloc::{AllocError, Global};
@@ -38,6 +39,9 @@ pub fn whnf(alloc: Global, heap: &mut Heap, t: TermId, depth: usize) -> Result<W
     ensures grows { Grows heap.old heap.new [] [] }
 {
     heap.is_sound();
+    if let Some(form) = rigid_application(alloc, heap, t, depth)? {
+        return Ok(form);
+    }
     let mut levels = Levels::own(alloc, depth);
     let mut fixed = depth;
     let mut args = Vec::new(alloc);

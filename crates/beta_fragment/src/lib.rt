@@ -19,6 +19,7 @@ mod opening;
 mod putting;
 mod quoting;
 mod renaming;
+mod rigid_form;
 mod settling;
 mod taking;
 

@@ -18,6 +18,12 @@ loop-args-init c = record {
   grows = grows-refl c.args.heap.now [];
 }
 
+pub returns-in_err-form-clause-grows : goal.returns-in_err-form-clause-grows
+returns-in_err-form-clause-grows c = grows-refl c.args.heap.now []
+
+pub returns-in-Some-clause-grows : goal.returns-in-Some-clause-grows
+returns-in-Some-clause-grows c = grows-refl c.args.heap.now []
+
 pub returns-in_err-next-clause-grows : goal.returns-in_err-next-clause-grows
 returns-in_err-next-clause-grows c = grows-trans c.args.heap.now c.loop-args.heap c.one_turn.new.heap [] [] [] c.loop-args.invariant.grows c.one_turn.ensures.grows
 
