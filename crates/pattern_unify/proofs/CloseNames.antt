@@ -12,7 +12,7 @@ use Rattle.ref_terms.specs.lemmas.FillLemmas.{built-fill, below-built}
 use Rattle.ref_terms.specs.lemmas.ComposeLemmas.{fill-lam, fill-fill, below_keeps}
 use Rattle.ref_terms.specs.lemmas.NameLemmas.{closing_keeps, closing_built, nat_eq_self}
 use Rattle.ref_terms.specs.lemmas.OccursLemmas.{fill_at}
-use Rattle.ref_terms.specs.lemmas.ReadyFacts.{ready-fill, ready-name}
+use Rattle.ref_terms.specs.lemmas.ReadyFacts.{ready-fill}
 use Rattle.ref_terms.specs.unification.Closing.{closing, close, close_all, up_from, names_below}
 use Rattle.beta_fragment.specs.Names.{AreDistinct}
 use Rattle.pattern_unify.specs.Binding.{AreFirst, HasPositions, IsNameless}
@@ -179,11 +179,6 @@ rename table h = At h
 pub rename-built : (table : List ℕ) → AllBuilt (rename table)
 rename-built table (Con c) = tt
 rename-built table _ = tt
-
-pub rename-keeps : (table : List ℕ) → KeepsReady (rename table)
-rename-keeps table (Name k) e = ready-name (slice_index table k)
-rename-keeps table (Con c) e = e
-rename-keeps table _ e = e
 
 -- a term without names stays
 same-otherwise : (table : List ℕ) (h : Head) → Allowed (λ k. ⊥) h → rename table h ≡ At h

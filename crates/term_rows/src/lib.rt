@@ -1,4 +1,4 @@
-//! Tests over terms in the heap, which words make: printed forms, and unification.
+//! Tests over terms in the heap, which words make: printed forms, unification and matching.
 //!
 //! The crate has tests alone. They cross the crates below it, and each table has a line for a case.
 #![tactic(auto)]

@@ -205,8 +205,27 @@ fn try_words(
     try_problem(alloc, &mut heap, &symbols, problem, row)
 }
 
-/// Tries a row of unification: a depth, the words of two sides, the answer, and the text; then with
-/// the sides swapped, after which the text may be another one.
+/// Tries two terms that words make, in both orders. Swapped they may have another text.
+fn try_both(
+    alloc: Global,
+    depth: usize,
+    left: &str,
+    right: &str,
+    first_fresh: Option<VarId>,
+    row: Row<'_>,
+    swapped: &str,
+) -> Result<(), Fail> {
+    try_words(alloc, depth, left, right, first_fresh, row)?;
+    let row = Row {
+        line: row.line,
+        answer: row.answer,
+        text: swapped,
+    };
+    try_words(alloc, depth, right, left, first_fresh, row)
+}
+
+/// Tries a row of unification: a depth, the words of two sides, the answer, the text, and the text
+/// for swapped sides, where that is another one.
 fn try_unification(alloc: Global, line: &str) -> Result<(), Fail> {
     let mut columns = line.split('⇒');
     let front = columns.next().ok_or("no sides")?;
@@ -216,19 +235,8 @@ fn try_unification(alloc: Global, line: &str) -> Result<(), Fail> {
     let (depth, words) = front.split_once(' ').ok_or("no depth")?;
     let (left, right) = words.split_once('≟').ok_or("one side")?;
     let depth = number(depth)? as usize;
-    try_words(alloc, depth, left, right, None, Row { line, answer, text })?;
-    try_words(
-        alloc,
-        depth,
-        right,
-        left,
-        None,
-        Row {
-            line,
-            answer,
-            text: swapped,
-        },
-    )
+    let row = Row { line, answer, text };
+    try_both(alloc, depth, left, right, None, row, swapped)
 }
 
 /// Tries a row of matching: a depth, the first variable that isn't frozen, the words of the pattern
@@ -245,14 +253,8 @@ fn try_matching(alloc: Global, line: &str) -> Result<(), Fail> {
     let first = VarId {
         index: number(first)? as u32,
     };
-    try_words(
-        alloc,
-        depth,
-        pattern,
-        argument,
-        Some(first),
-        Row { line, answer, text },
-    )
+    let row = Row { line, answer, text };
+    try_both(alloc, depth, pattern, argument, Some(first), row, text)
 }
 
 /// Puts the term of a side last: that of its words, or where these begin with `^` that of the others,
