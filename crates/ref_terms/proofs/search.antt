@@ -4,6 +4,11 @@ pub mod AnswerVars
 pub mod ArithmeticVars
 pub mod AssumptionVars
 pub mod BarrierVars
+pub mod BelowClauses
+pub mod BelowMoves
+pub mod BelowRules
+pub mod BelowTerms
+pub mod BelowUnify
 pub mod BranchMoveVars
 pub mod BranchVars
 pub mod CandidateVars
@@ -17,6 +22,7 @@ pub mod JointVars
 pub mod KeptCounts
 pub mod ListVars
 pub mod NextVars
+pub mod PartnerLemmas
 pub mod ResolveVars
 pub mod RuleInstanceVars
 pub mod RuleMatchVars
@@ -25,5 +31,7 @@ pub mod StripAlike
 pub mod StripExample
 pub mod StripMoves
 pub mod TermVars
+pub mod TouchedLemmas
 pub mod UnifyFair
 pub mod UsedVars
+pub mod WakingLemmas

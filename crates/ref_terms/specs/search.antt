@@ -1,6 +1,7 @@
 pub mod Alike
 pub mod Arithmetic
 pub mod Assumption
+pub mod Below
 pub mod Branch
 pub mod BranchMove
 pub mod Candidates
@@ -15,6 +16,7 @@ pub mod Instance
 pub mod Joint
 pub mod Lists
 pub mod Next
+pub mod Partners
 pub mod Program
 pub mod Renamed
 pub mod Reserved
@@ -22,7 +24,10 @@ pub mod Resolve
 pub mod RuleInstance
 pub mod RuleMatch
 pub mod RuleTest
+pub mod Sequence
 pub mod State
 pub mod Strip
+pub mod Touched
 pub mod Used
 pub mod Value
+pub mod Waking

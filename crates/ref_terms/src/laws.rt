@@ -2,8 +2,11 @@
 
 ghost use Rattle.ref_terms.specs.laws.TermLaws.{FillTwiceIsOnce, FillAppliesTheSame, FillAbstractsTheSame, InstanceApplies, InstanceOfAllApplies, ApplicationBuilds, AbstractionBuilds, FillBuilds, BuiltStays, AbsentVariable, OpeningIsReplacing, ApplicationOpens, AbstractionUndoesApplication, ApplicationUndoesAbstraction};
 ghost use Rattle.ref_terms.specs.laws.ReadyLaws.{NameIsReady, BoundIndexIsReady, ReadyIsRigid, ReadyAfterInstance, ReadyAfterOpening, UnreadyAfterOpening};
-ghost use Rattle.ref_terms.specs.laws.UnifyLaws.{HasOneAnswer, UnificationEnds, UnifyIsReached, UnifyIsTheOnlyAnswer, StepKeepsAnswer, LastStepAnswers, StepsFall, LastStepIsOne};
+ghost use Rattle.ref_terms.specs.laws.TextLaws.{TextApplicationBuilds, TextAbstractionBuilds, RebuiltTextApplies};
+ghost use Rattle.ref_terms.specs.laws.UnifyLaws.{HasOneAnswer, UnificationEnds, UnifyIsReached, UnifyIsTheOnlyAnswer, StepKeepsAnswer, LastStepAnswers, StepsFall, LastStepIsOne, UnifiesOneByOne};
 ghost use Rattle.ref_terms.specs.laws.SearchLaws.{RenamedProblemHasRenamedAnswer, RenamingOfUsedVariables, RenamedStatesMoveRenamed, AlikeStatesMoveAlike, AlikeEventsShowTheSame, AlikeStatesShowTheSame, StrippedStateMovesStripped, AlikeStatesStripAlike, AlikeOnceStrippedMoveAlike, AlikeOnceStrippedShowTheSame, FirstStateIsCounted, CountedStateMovesCounted};
+ghost use Rattle.ref_terms.specs.laws.BelowLaws.{FirstStateIsBelow, MovesStayBelow};
+ghost use Rattle.ref_terms.specs.laws.TouchLaws.{FirstTouchedIsFirst, TouchedAfterBindings, TouchedAfterRenaming, TouchedAfterAdding, TouchedAfterLeaving, TouchedAfterFiring, TouchedAfterDropping, TouchedAfterRule, TouchedAfterWaking, TouchedRenamed, RefusedAfterFiring, FiredIsRefused, RestAfterFiring, WatchedSleepsOn, PairsShare};
 ghost use Rattle.ref_terms.specs.unification.MostGeneral.{MostGeneral};
 ghost use Rattle.ref_terms.specs.unification.RealClash.{RealClash, RealClashes};
 
@@ -59,6 +62,14 @@ pub fn law_ready()
     ensures unready { UnreadyAfterOpening }
 {}
 
+/// Application and abstraction of a text's terms build as a text is built, and an application of a text,
+/// rebuilt, is the application of what is rebuilt.
+pub fn law_text()
+    ensures application { TextApplicationBuilds }
+    ensures abstraction { TextAbstractionBuilds }
+    ensures rebuilt { RebuiltTextApplies }
+{}
+
 /// A run of unification has one answer.
 pub fn law_one_answer()
     ensures { HasOneAnswer }
@@ -85,6 +96,12 @@ pub fn law_unify_follows_steps()
 pub fn law_steps_fall()
     ensures goes { StepsFall }
     ensures ends { LastStepIsOne }
+{}
+
+/// A list of equations is unified one by one: the first, and then the others under its bindings. A clash
+/// or a fault of the first is that of the list.
+pub fn law_one_by_one()
+    ensures { UnifiesOneByOne }
 {}
 
 /// Where `unify` solves a problem, its bindings are a most general unifier of it.
@@ -139,6 +156,14 @@ pub fn law_counted_states()
     ensures moves { CountedStateMovesCounted }
 {}
 
+/// In each state of a search all variables in use are below the next free one, in the present branch and in
+/// each alternative. The first state of each query is so, and every move of a program keeps it, where the
+/// variables of queries, clauses and rules are below their number.
+pub fn law_variables_below()
+    ensures first { FirstStateIsBelow }
+    ensures moves { MovesStayBelow }
+{}
+
 /// Clauses of alternatives that are bound to clash make no difference: the move of a stripped state
 /// is the stripped move, with the same event.
 ///
@@ -149,4 +174,38 @@ pub fn law_stripped_states()
     ensures strips { AlikeStatesStripAlike }
     ensures alike { AlikeOnceStrippedMoveAlike }
     ensures run { AlikeOnceStrippedShowTheSame }
+{}
+
+/// What keeps every tuple that isn't refused among those that hold a touched pair, so that the others
+/// need not be tried: a constraint is touched when it is added, and when a variable in it gets a value.
+pub fn law_touched_pairs()
+    ensures first { FirstTouchedIsFirst }
+    ensures bindings { TouchedAfterBindings }
+    ensures renaming { TouchedAfterRenaming }
+    ensures adding { TouchedAfterAdding }
+    ensures leaving { TouchedAfterLeaving }
+    ensures firing { TouchedAfterFiring }
+    ensures dropping { TouchedAfterDropping }
+    ensures rule { TouchedAfterRule }
+    ensures waking { TouchedAfterWaking }
+    ensures renamed { TouchedRenamed }
+{}
+
+/// While rules fire one after the other, refused tuples stay refused, and so is a tuple that fired. So the
+/// search for the next one goes on after it.
+pub fn law_refused_tuples()
+    ensures stays { RefusedAfterFiring }
+    ensures fired { FiredIsRefused }
+    ensures rest { RestAfterFiring }
+{}
+
+/// A constraint whose keys are headed by watched variables sleeps on while others get values.
+pub fn law_sleeping_constraints()
+    ensures { WatchedSleepsOn }
+{}
+
+/// Constraints that a rule aligns have one variable at both arguments of each of its pairs: so partners
+/// are found by that variable.
+pub fn law_partners()
+    ensures { PairsShare }
 {}

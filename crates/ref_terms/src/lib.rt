@@ -7,6 +7,7 @@ pub mod fault;
 pub mod laws;
 pub mod pair;
 pub mod path;
+pub mod reserved;
 pub mod sequence;
 pub mod sym;
 pub mod tree;
@@ -14,9 +15,7 @@ pub mod tree;
 pub use fault::Fault;
 pub use pair::Pair;
 pub use path::{Choice, Path};
+pub use reserved::Reserved;
 pub use sequence::Sequence;
 pub use sym::Sym;
 pub use tree::{Args, Head, Tree};
-
-#[cfg(test)]
-mod tests;
