@@ -5,15 +5,13 @@
 ghost use Rattle.std.specs.Prelude.{◌≡◌, ℕ, ◌+◌, ◌*◌, ◌-◌, ◌<◌, ◌≤◌, ◌↔◌, [], List, ◌∷◌, length, reverse, OnOk, OnErr, IsNone, IfNone, IfOk, IfSome, vec_len, vec_capacity};
 ghost use Rattle.agenda.specs.Pairs.{IsOrdered};
 ghost use Rattle.agenda.specs.Log.{pairs_of, oldest, IsLater, touched, AddsAll, cleared};
-ghost use Rattle.agenda.specs.Kept.{puts};
+ghost use Rattle.agenda.specs.inside.Kept.{puts};
 
 use ranks::Ranks;
 use std::alloc::{AllocError, Global};
 use std::marker::Model;
 
 mod ranks;
-#[cfg(test)]
-mod tests;
 
 /// A change of an agenda: the pair of a rule and a constraint's number was put in, or taken out.
 #[derive(Clone, Copy, Debug, PartialEq, Eq)]
@@ -46,7 +44,7 @@ pub struct Agenda {
 impl Model for Agenda {
     ghost use Rattle.std.specs.Prelude.{reverse, vec_capacity};
     ghost use Rattle.agenda.specs.Log.{Changes};
-    ghost use Rattle.agenda.specs.Kept.{IsKept};
+    ghost use Rattle.agenda.specs.inside.Kept.{IsKept};
 
     ghost Value = { Changes };
 

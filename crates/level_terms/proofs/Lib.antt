@@ -15,3 +15,9 @@ pub mod NodeLemmas
 pub mod ConstantLemmas
 pub mod TreeLemmas
 pub mod ValidLemmas
+pub mod ReadLemmas
+pub mod ReachLemmas
+pub mod MakeLemmas
+pub mod MarkLemmas
+pub mod GroundLemmas
+pub mod GainLemmas
