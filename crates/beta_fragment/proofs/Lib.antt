@@ -1,6 +1,4 @@
-pub mod ReadLemmas
 pub mod EnterLemmas
-pub mod MakeLemmas
 pub mod MoveLemmas
 pub mod WorkLemmas
 pub mod VisitLemmas
@@ -17,6 +15,11 @@ pub mod NamelessLemmas
 pub mod PutLemmas
 pub mod PutWork
 pub mod FilledLemmas
+pub mod StandLemmas
+pub mod UnreachedNodes
+pub mod AppliedNodes
+pub mod GentleLemmas
+pub mod InstantLemmas
 pub mod LevelLemmas
 pub mod CellLemmas
 pub mod LevelListLemmas
@@ -30,8 +33,8 @@ pub mod TakingSteps
 pub mod ApplyingLemmas
 pub mod QuoteLemmas
 pub mod QuoteWork
+pub mod RebuildLemmas
 pub mod OpenHeadLemmas
 pub mod EvaluationLemmas
 pub mod ArgumentLemmas
 pub mod SpineLemmas
-pub mod SampleLemmas

@@ -18,12 +18,12 @@ use Rattle.ref_terms.specs.unification.Bind.{bind_fresh}
 use Rattle.ref_terms.specs.unification.Offence.{Verdict, fine, dropped, offence}
 use Rattle.ref_terms.specs.unification.Rules.{same_variable, two_variables, by_verdict, bind_to, flex_flex}
 use Rattle.beta_fragment.specs.Names.{names}
-use Rattle.beta_fragment.proofs.ReadLemmas.{valid-below}
+use Rattle.level_terms.proofs.ReadLemmas.{valid-below}
 use Rattle.pattern_unify.specs.declared.equation.Equation.{Equation}
 use Rattle.pattern_unify.specs.declared.equation.Turn.{Turn}
 use Rattle.pattern_unify.specs.Bound.{IsBound}
-use Rattle.pattern_unify.specs.Equations.{equation_at, equations_at, problem_at, IsValidEquation, AllValidEquations}
-use Rattle.pattern_unify.specs.Turns.{GoesOn, IsTurn}
+use Rattle.pattern_unify.specs.inside.Equations.{equation_at, equations_at, problem_at, IsValidEquation, AllValidEquations}
+use Rattle.pattern_unify.specs.inside.Turns.{GoesOn, IsTurn}
 use Rattle.pattern_unify.proofs.BoundEquations.{goes-bound, goes-bound_twice}
 use Rattle.pattern_unify.proofs.EquationLemmas.{equations-last, equations_valid-last, first-kept}
 use Rattle.pattern_unify.proofs.TurnLemmas.{goes-same, turn-same, seen-after}

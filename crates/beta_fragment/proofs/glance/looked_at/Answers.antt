@@ -4,7 +4,7 @@ use Rattle.beta_fragment.proofs.StayLemmas.{var-low}
 use Rattle.beta_fragment.specs.Names.{names}
 use Rattle.ref_terms.specs.terms.Ready.{ready}
 use Rattle.level_terms.proofs.TreeLemmas.{value_below}
-use Rattle.beta_fragment.proofs.ReadLemmas.{valid-below}
+use Rattle.level_terms.proofs.ReadLemmas.{valid-below}
 use Rattle.beta_fragment.proofs.EnterLemmas.{names-places}
 use Rattle.beta_fragment.proofs.VarLemmas.{var-known}
 use Rattle.beta_fragment.proofs.FirmLemmas.{reads-value, var-unready, readiness-before}
@@ -40,4 +40,4 @@ loop-v-init c = record {
 pub returns : goal.returns
 returns c = λ s v.
     let before = c.loop-v.invariant.valid s v in
-    readiness-before (read c.args.heap.now c.args.t.index names) (read c.args.heap.now c.loop-v.node.index names) before.0 s c.looked_at_end.result c.loop-v.invariant.same before.1 (c.looked_at_end.ensures before.0 before.2)
+    readiness-before c.args.heap.now (read c.args.heap.now c.args.t.index names) (read c.args.heap.now c.loop-v.node.index names) before.0 s c.looked_at_end.result c.loop-v.invariant.same before.1 (c.looked_at_end.ensures before.0 before.2)

@@ -1,6 +1,6 @@
 use Rattle.std.proofs.Common.{◌∙◌, ap, subst, Some, []}
 use Rattle.level_terms.proofs.GrowthLemmas.{grows-refl}
-use Rattle.beta_fragment.specs.Settled.{HasPlainHead}
+use Rattle.beta_fragment.specs.inside.Settled.{HasPlainHead}
 use Rattle.beta_fragment.proofs.StayLemmas.{lam-stays, var-stays, con-stays, int-stays, str-stays}
 use Rattle.beta_fragment.proofs.VarLemmas.{var-known}
 use Rattle.beta_fragment.proofs.putting.put_at.Goals as goal
@@ -33,7 +33,7 @@ pub returns-else-depth-level-clause-grows : goal.returns-else-depth-level-clause
 returns-else-depth-level-clause-grows c = grows-refl c.args.heap.now []
 
 pub put_at_app-requires-clause-plain : goal.put_at_app-requires-clause-plain
-put_at_app-requires-clause-plain c = subst (HasPlainHead c.args.heap.now) (c.view.ensures ∙ ap Some c.in-App.is) c.requires.plain
+put_at_app-requires-clause-plain c = λ e. subst (HasPlainHead c.args.heap.now) (c.view.ensures ∙ ap Some c.in-App.is) (c.requires.plain e)
 
 pub returns-in-App-clause-grows : goal.returns-in-App-clause-grows
 returns-in-App-clause-grows c = grows-refl c.args.heap.now []
