@@ -1,0 +1,15 @@
+pub mod StandLemmas
+pub mod StepLemmas
+pub mod PartLemmas
+pub mod SharedLemmas
+pub mod CodeLemmas
+pub mod CompiledLemmas
+pub mod TreeForms
+pub mod StayLemmas
+pub mod BoundLemmas
+pub mod CodesLemmas
+pub mod AtomLemmas
+pub mod PredLemmas
+pub mod FitLemmas
+pub mod BuiltLemmas
+pub mod QueryLemmas
