@@ -82,7 +82,7 @@ fn integer(
     ensures grows { Grows heap.old heap.new [] [] }
 {
     let form = whnf(alloc, heap, t, depth)?;
-    match number_of(&form) {
+    match number_of(form) {
         Ok(z) => Ok(z),
         Err(e) => Err(UnifyStop::Fault(e)),
     }

@@ -1,19 +1,20 @@
 -- The built-ins, by their reserved names.
 use Rattle.std.specs.Prelude.{◌≡◌, ℕ}
-use Rattle.ref_terms.specs.search.Reserved.{Reserved, Equal_word, Same_word, Var_word, Name_word, Is_word, Less_word, Print_word, Beta_word}
+use Rattle.ref_terms.specs.declared.reserved.Reserved.{Reserved}
+use Rattle.ref_terms.specs.declared.reserved.Reserved.TheVariants as word
 use Rattle.goal_form.specs.declared.builtin.Builtin.{Builtin}
 use Rattle.goal_form.specs.declared.builtin.Builtin.TheVariants.{Equal, Same, Var, Name, Is, Less, Print, Beta}
 
 -- the name of a built-in
 abbrev pub builtin_word : Builtin → Reserved
-builtin_word Equal = Equal_word
-builtin_word Same = Same_word
-builtin_word Var = Var_word
-builtin_word Name = Name_word
-builtin_word Is = Is_word
-builtin_word Less = Less_word
-builtin_word Print = Print_word
-builtin_word Beta = Beta_word
+builtin_word Equal = word.Equal
+builtin_word Same = word.Same
+builtin_word Var = word.Var
+builtin_word Name = word.Name
+builtin_word Is = word.Is
+builtin_word Less = word.Less
+builtin_word Print = word.Print
+builtin_word Beta = word.Beta
 
 -- the number of its arguments
 abbrev pub arity_of : Builtin → ℕ

@@ -6,7 +6,8 @@ use Rattle.level_terms.specs.Valid.{IsValid}
 use Rattle.ref_terms.specs.terms.Term.{Term}
 use Rattle.ref_terms.specs.search.Formula as formula
 use Rattle.ref_terms.specs.search.Formula.{reserved_goal, goal_kind}
-use Rattle.ref_terms.specs.search.Reserved.{Reserved, Nil_word, Cons_word, Plus_word, Minus_word, Times_word}
+use Rattle.ref_terms.specs.declared.reserved.Reserved.{Reserved}
+use Rattle.ref_terms.specs.declared.reserved.Reserved.TheVariants.{Nil, Cons, Plus, Minus, Times}
 use Rattle.ref_terms.specs.declared.fault.Fault.{Fault}
 use Rattle.ref_terms.specs.declared.fault.Fault.TheVariants.{Unknown, Arity}
 use Rattle.beta_fragment.specs.HeadForm.{AllValidAt, all_read}
@@ -55,9 +56,9 @@ IsKindOf g depth u kind = IsKindAt g depth (goal_kind u) kind
 
 -- the fault of a reserved name with another number of arguments than a goal of it has
 abbrev pub misfit_of : Reserved → Fault
-misfit_of Nil_word = Unknown
-misfit_of Cons_word = Unknown
-misfit_of Plus_word = Unknown
-misfit_of Minus_word = Unknown
-misfit_of Times_word = Unknown
+misfit_of Nil = Unknown
+misfit_of Cons = Unknown
+misfit_of Plus = Unknown
+misfit_of Minus = Unknown
+misfit_of Times = Unknown
 misfit_of _ = Arity

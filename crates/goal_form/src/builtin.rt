@@ -1,6 +1,6 @@
 //! The built-ins.
 
-ghost use Rattle.std.specs.Prelude.{◌≡◌, option_map, IfSome, IfNone, ⊥};
+ghost use Rattle.std.specs.Prelude.{◌≡◌, option_map, IfSome, IfNone};
 ghost use Rattle.goal_form.specs.Builtins.{builtin_word, arity_of, IsNoBuiltin};
 
 use ref_terms::Reserved;

@@ -11,8 +11,8 @@ ghost use Rattle.beta_fragment.specs.Names.{names};
 ghost use Rattle.goal_form.specs.Kinds.{IsKindOf};
 
 use crate::builtin::Builtin;
-use crate::word_kind::constant_kind;
-use beta_fragment::{RigidHead, Whnf, whnf};
+use crate::word_kind::rigid_kind;
+use beta_fragment::{Whnf, whnf};
 use level_terms::{Heap, TermId, TermIds};
 use ref_terms::{Fault, Sym};
 use std::alloc::{AllocError, Global};
@@ -54,8 +54,7 @@ pub fn kind_of_form(form: Whnf) -> GoalKind
         Whnf::Lam(_) => GoalKind::Wrong(Fault::NotGoal),
         Whnf::Redex(_, _) => GoalKind::Wrong(Fault::Redex),
         Whnf::Flex(_, _) => GoalKind::Wrong(Fault::FlexGoal),
-        Whnf::Rigid(RigidHead::Con(c), args) => constant_kind(c, args),
-        Whnf::Rigid(_, _) => GoalKind::Wrong(Fault::NotGoal),
+        Whnf::Rigid(head, args) => rigid_kind(head, args),
     }
 }
 

@@ -1,23 +1,37 @@
-//! Goals that a constant heads.
+//! Goals that no variable heads.
 
 ghost use Rattle.std.specs.Prelude.{◌≡◌, ℕ, [], ◌∷◌, length};
 ghost use Rattle.level_terms.specs.Graph.{Graph};
 ghost use Rattle.level_terms.specs.Reading.{read};
 ghost use Rattle.level_terms.specs.Valid.{IsValid};
-ghost use Rattle.ref_terms.specs.search.Formula.{reserved_goal, word_goal};
+ghost use Rattle.ref_terms.specs.search.Formula.{reserved_goal, word_goal, shape_goal};
 ghost use Rattle.ref_terms.specs.search.Reserved.{word_of};
-ghost use Rattle.beta_fragment.specs.HeadForm.{AllValidAt, all_read};
+ghost use Rattle.ref_terms.specs.unification.Shape.{Rigid};
+ghost use Rattle.beta_fragment.specs.HeadForm.{AllValidAt, all_read, rigid_head};
 ghost use Rattle.beta_fragment.specs.Names.{names};
 ghost use Rattle.goal_form.specs.Builtins.{builtin_word, IsNoBuiltin};
 ghost use Rattle.goal_form.specs.Kinds.{IsKindAt, misfit_of};
 
 use crate::builtin::Builtin;
 use crate::kind::GoalKind;
+use beta_fragment::RigidHead;
 use level_terms::{TermId, TermIds};
 use ref_terms::{Fault, Reserved, Sym};
 
+/// The kind of a goal that is this head with arguments.
+pub(crate) fn rigid_kind(head: RigidHead, args: TermIds) -> GoalKind
+    ensures { (g : Graph) (depth : ℕ) → AllValidAt g args depth → IsKindAt g depth (shape_goal (Rigid (rigid_head head) (all_read g args))) result }
+{
+    match head {
+        RigidHead::Con(c) => constant_kind(c, args),
+        RigidHead::Int(_) => GoalKind::Wrong(Fault::NotGoal),
+        RigidHead::Str(_) => GoalKind::Wrong(Fault::NotGoal),
+        RigidHead::Level(_) => GoalKind::Wrong(Fault::NotGoal),
+    }
+}
+
 /// The kind of a goal that is a constant with arguments.
-pub(crate) fn constant_kind(c: Sym, args: TermIds) -> GoalKind
+fn constant_kind(c: Sym, args: TermIds) -> GoalKind
     ensures { (g : Graph) (depth : ℕ) → AllValidAt g args depth → IsKindAt g depth (word_goal (word_of c.0) c.0 (all_read g args)) result }
 {
     match Reserved::of(c) {
