@@ -1,0 +1,167 @@
+//! Retries: the alternatives, newest first.
+
+ghost use Rattle.std.specs.Prelude.{◌≡◌, ◌∷◌, Some, None, IfOk, MatchOption};
+ghost use Rattle.level_terms.specs.Reading.{read};
+ghost use Rattle.beta_fragment.specs.HeadForm.{AllValidAt, all_read};
+ghost use Rattle.beta_fragment.specs.Names.{names};
+ghost use Rattle.ref_terms.specs.terms.Term.{Con};
+ghost use Rattle.ref_terms.specs.unification.Spine.{args_of, head_of};
+ghost use Rattle.ref_terms.specs.unification.Unification.{unify};
+ghost use Rattle.ref_terms.specs.search.Program.{Program, modes_of};
+ghost use Rattle.ref_terms.specs.search.Next.{retry};
+ghost use Rattle.goal_run.specs.World.{code_nodes};
+ghost use Rattle.goal_run.specs.declared.frame.Left.TheVariants as LeftVariants;
+ghost use Rattle.goal_run.specs.Reading.{left_at};
+ghost use Rattle.goal_run.specs.Saved.{HasLeft};
+ghost use Rattle.goal_run.specs.Calling.{IsCall, HasInputs};
+ghost use Rattle.goal_run.specs.Machine.{branch_of, alternatives_of, HasMoved, IsFirst};
+
+use crate::call::Call;
+use crate::clauses::Clauses;
+use crate::frame::{Frame, Left};
+use crate::machine::{Event, Machine, Phase, Stop};
+use beta_fragment::UnifyStop;
+use level_terms::TermId;
+use ref_terms::{Choice, Sym};
+
+impl Machine {
+    /// The newest alternative that gives a branch or a fault; the others are dropped on the way.
+    pub(crate) fn retry<C: Clauses>(&mut self, code: &C) -> Result<Event, Stop>
+        requires code { (p : Program) × (C.stands (code_nodes self.old.world) code.now p) }
+        ensures moved { IfOk result (λ e. (p : Program) → C.stands (code_nodes self.old.world) code.now p
+            → HasMoved p (retry unify p (alternatives_of p self.old)) e self.new) }
+        ensures code { code_nodes self.new.world ≡ code_nodes self.old.world }
+    {
+        while let Some(left) = self.back() {
+            match self.take_up(code, left) {
+                Ok(Some(event)) => return Ok(event),
+                Ok(None) => {}
+                Err(stop) => return Err(stop),
+            }
+        }
+        self.set_phase(Phase::Exhausted);
+        Ok(Event::Failure)
+    }
+
+    /// Goes on with what an alternative has left, in its branch; none where all that is left clashes.
+    fn take_up<C: Clauses>(&mut self, code: &C, left: Left) -> Result<Option<Event>, Stop>
+        requires code { (p : Program) × (C.stands (code_nodes self.old.world) code.now p) }
+        requires left { HasLeft (branch_of self.old) left }
+        ensures moved { IfOk result (λ o. (p : Program) → C.stands (code_nodes self.old.world) code.now p → MatchOption o
+            (retry unify p (left_at p (branch_of self.old) left ∷ alternatives_of p self.old) ≡ retry unify p (alternatives_of p self.new))
+            (λ e. HasMoved p (retry unify p (left_at p (branch_of self.old) left ∷ alternatives_of p self.old)) e self.new)) }
+        ensures saved { IfOk result (λ o. o ≡ None → self.new.saved ≡ self.old.saved) }
+        ensures code { code_nodes self.new.world ≡ code_nodes self.old.world }
+    {
+        match left {
+            Left::Side => {
+                self.choose(Choice::Right)?;
+                self.set_phase(Phase::Running);
+                Ok(Some(Event::Moved))
+            }
+            Left::Clauses(c, from) => self.go_on(code, c, from),
+        }
+    }
+
+    /// Goes on with the clauses of the first goal's constant from a number on.
+    fn go_on<C: Clauses>(&mut self, code: &C, c: Sym, from: usize) -> Result<Option<Event>, Stop>
+        requires code { (p : Program) × (C.stands (code_nodes self.old.world) code.now p) }
+        requires left { HasLeft (branch_of self.old) (LeftVariants.Clauses c from) }
+        ensures moved { IfOk result (λ o. (p : Program) → C.stands (code_nodes self.old.world) code.now p → MatchOption o
+            (retry unify p (left_at p (branch_of self.old) (LeftVariants.Clauses c from) ∷ alternatives_of p self.old) ≡ retry unify p (alternatives_of p self.new))
+            (λ e. HasMoved p (retry unify p (left_at p (branch_of self.old) (LeftVariants.Clauses c from) ∷ alternatives_of p self.old)) e self.new)) }
+        ensures saved { IfOk result (λ o. o ≡ None → self.new.saved ≡ self.old.saved) }
+        ensures code { code_nodes self.new.world ≡ code_nodes self.old.world }
+    {
+        match self.goal() {
+            None => Err(Stop::NotYet),
+            Some(goal) => self.go_on_at(code, goal, c, from),
+        }
+    }
+
+    /// Goes on with the clauses of a constant, which heads the first goal, from a number on.
+    fn go_on_at<C: Clauses>(
+        &mut self,
+        code: &C,
+        goal: Frame,
+        c: Sym,
+        from: usize,
+    ) -> Result<Option<Event>, Stop>
+        requires code { (p : Program) × (C.stands (code_nodes self.old.world) code.now p) }
+        requires first { IsFirst self.old goal }
+        requires head { head_of (read self.old.world.heap goal.term.index names) ≡ Some (Con c.0) }
+        ensures moved { IfOk result (λ o. (p : Program) → C.stands (code_nodes self.old.world) code.now p → MatchOption o
+            (retry unify p (left_at p (branch_of self.old) (LeftVariants.Clauses c from) ∷ alternatives_of p self.old) ≡ retry unify p (alternatives_of p self.new))
+            (λ e. HasMoved p (retry unify p (left_at p (branch_of self.old) (LeftVariants.Clauses c from) ∷ alternatives_of p self.old)) e self.new)) }
+        ensures saved { IfOk result (λ o. o ≡ None → self.new.saved ≡ self.old.saved) }
+        ensures code { code_nodes self.new.world ≡ code_nodes self.old.world }
+    {
+        match self.arguments(goal)? {
+            None => Err(Stop::NotYet),
+            Some(args) => self.go_on_with(code, goal, c, args.as_slice(), from),
+        }
+    }
+
+    /// Goes on with the clauses of an atom's constant from a number on.
+    fn go_on_with<C: Clauses>(
+        &mut self,
+        code: &C,
+        goal: Frame,
+        c: Sym,
+        args: &[TermId],
+        from: usize,
+    ) -> Result<Option<Event>, Stop>
+        requires code { (p : Program) × (C.stands (code_nodes self.old.world) code.now p) }
+        requires first { IsFirst self.old goal }
+        requires head { head_of (read self.old.world.heap goal.term.index names) ≡ Some (Con c.0) }
+        requires valid { AllValidAt self.old.world.heap args.now goal.depth }
+        requires arguments { args_of (read self.old.world.heap goal.term.index names) ≡ all_read self.old.world.heap args.now }
+        ensures moved { IfOk result (λ o. (p : Program) → C.stands (code_nodes self.old.world) code.now p → MatchOption o
+            (retry unify p (left_at p (branch_of self.old) (LeftVariants.Clauses c from) ∷ alternatives_of p self.old) ≡ retry unify p (alternatives_of p self.new))
+            (λ e. HasMoved p (retry unify p (left_at p (branch_of self.old) (LeftVariants.Clauses c from) ∷ alternatives_of p self.old)) e self.new)) }
+        ensures saved { IfOk result (λ o. o ≡ None → self.new.saved ≡ self.old.saved) }
+        ensures code { code_nodes self.new.world ≡ code_nodes self.old.world }
+    {
+        match code.modes(c) {
+            None => Err(Stop::NotYet),
+            Some(inputs) => {
+                if args.len() != inputs.len() {
+                    return Err(Stop::NotYet);
+                }
+                let call = Call {
+                    goal,
+                    pred: c,
+                    args,
+                    inputs,
+                };
+                self.try_later(code, &call, from)
+            }
+        }
+    }
+
+    /// Goes on with the clauses of a call from a number on.
+    fn try_later<C: Clauses>(
+        &mut self,
+        code: &C,
+        call: &Call<'_>,
+        from: usize,
+    ) -> Result<Option<Event>, Stop>
+        requires code { (p : Program) × (C.stands (code_nodes self.old.world) code.now p) }
+        requires call { IsCall self.old call.now }
+        ensures moved { IfOk result (λ o. (p : Program) → C.stands (code_nodes self.old.world) code.now p → HasInputs call.now (modes_of p call.now.pred.0) → MatchOption o
+            (retry unify p (left_at p (branch_of self.old) (LeftVariants.Clauses call.now.pred from) ∷ alternatives_of p self.old) ≡ retry unify p (alternatives_of p self.new))
+            (λ e. HasMoved p (retry unify p (left_at p (branch_of self.old) (LeftVariants.Clauses call.now.pred from) ∷ alternatives_of p self.old)) e self.new)) }
+        ensures saved { IfOk result (λ o. o ≡ None → self.new.saved ≡ self.old.saved) }
+        ensures code { code_nodes self.new.world ≡ code_nodes self.old.world }
+    {
+        match self.resolve(code, call, from) {
+            Ok(true) => {
+                self.set_phase(Phase::Running);
+                Ok(Some(Event::Moved))
+            }
+            Ok(false) => Ok(None),
+            Err(UnifyStop::Fault(e)) => Ok(Some(self.break_off(e))),
+            Err(UnifyStop::Memory) => Err(Stop::Memory),
+        }
+    }
+}
