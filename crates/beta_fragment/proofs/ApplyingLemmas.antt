@@ -1,18 +1,12 @@
 -- Application and abstraction of kept terms.
 use Rattle.std.proofs.Common.{◌≡◌, ℕ, ◌<◌, List, ◌∷◌, length, refl, sym, ap, ◌∙◌, subst, Option, Some, None, Result, Ok, Err, IfOk, OnErr}
 use Rattle.ref_terms.specs.terms.Term as term
-use Rattle.ref_terms.specs.terms.Term.{Term, Head}
+use Rattle.ref_terms.specs.terms.Term.{Term}
 use Rattle.ref_terms.specs.terms.Eta.{eta, lam, lam_of}
-use Rattle.ref_terms.specs.terms.Ready.{ready, ready_head}
 use Rattle.beta_fragment.specs.declared.cells.Cell.{Cell}
 use Rattle.beta_fragment.specs.Cells.{term_at, terms_of, Gains, IsKept, IsKeptIfAny}
 use Rattle.beta_fragment.proofs.CellLemmas.{gains-at}
 use Rattle.beta_fragment.proofs.KeptLemmas.{added-kept, added-gains, same-gains}
-
--- a head is ready where it is a name or an index
-pub ready-head : (h : Head) → ready (term.At h) ≡ ready_head h
-unfolding ready
-ready-head h = refl
 
 -- a term was added, or nothing was
 pub added-or_same : {E : Type 0} (r : Result ℕ E) (old new : List Cell) (x : Term) → IfOk r (λ i. terms_of new ≡ x ∷ terms_of old) → OnErr r (new ≡ old) → Gains (terms_of old) (terms_of new)

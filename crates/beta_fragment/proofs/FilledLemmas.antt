@@ -66,14 +66,14 @@ low-places depth i = go (nat_lt i depth)
     go true = tt
     go false = tt
 
-low-lack : (depth : ℕ) → Lacks depth (low_names depth)
+pub low-lack : (depth : ℕ) → Lacks depth (low_names depth)
 low-lack depth i = go (nat_lt i depth) refl
   where
     go : (b : Bool) → nat_lt i depth ≡ b → has_name depth (cond b (names i) (At (term.Bound 0))) ≡ false
     go true e = let lt : i < depth = grind (arith, e) in ne_eqb depth i (omega (arith, lt))
     go false e = refl
 
-low-same : (depth i : ℕ) → i < depth → names i ≡ low_names depth i
+pub low-same : (depth i : ℕ) → i < depth → names i ≡ low_names depth i
 low-same depth i h = sym (ap (λ b. cond b (names i) (At (term.Bound 0))) (below_true i depth h))
 
 around-same : (depth i : ℕ) → i < suc depth → around depth (low_names depth) i ≡ names i

@@ -25,15 +25,17 @@ use Rattle.ref_terms.specs.unification.Spine.{apply_all, head_of}
 use Rattle.ref_terms.specs.lemmas.EtaLemmas.{eta-some}
 use Rattle.std.proofs.Common.{nat_lt, ◌+◌}
 use Rattle.level_terms.specs.Valid.{valid}
-use Rattle.level_terms.proofs.ValidLemmas.{nodes_valid}
+use Rattle.level_terms.proofs.ValidLemmas.{nodes_valid, valid_deeper}
 use Rattle.beta_fragment.specs.declared.glance.Readiness.{Readiness}
-use Rattle.beta_fragment.specs.declared.glance.Readiness.TheVariants.{Level as some_level, Unready, Unknown}
+use Rattle.beta_fragment.specs.declared.glance.Readiness.TheVariants.{Level as some_level, Ready, Unready, Unknown}
 use Rattle.beta_fragment.specs.Moves.{value_of, IsLamOf, IsVarOf}
 use Rattle.beta_fragment.proofs.MakeLemmas.{and_both}
 use Rattle.beta_fragment.proofs.MoveLemmas.{below_true}
 use Rattle.beta_fragment.specs.HeadForm.{IsAbstraction}
-use Rattle.beta_fragment.specs.Firm.{IsPlain, IsFirmHead, IsFirm, IsFirmNode, IsPlainNode, IsAbstractionNode, EndsOtherwise, IsOther, IsReadiness}
-use Rattle.beta_fragment.proofs.ReadLemmas.{read-follows}
+use Rattle.beta_fragment.specs.Firm.{IsPlain, IsReadyNode, IsOpenNode, IsFirmHead, IsFirm, IsFirmNode, IsPlainNode, IsAbstractionNode, EndsOtherwise, IsOther, IsReadiness}
+use Rattle.beta_fragment.proofs.ReadLemmas.{read-follows, places-ready}
+use Rattle.ref_terms.specs.laws.ReadyLaws.{IsRigidHead}
+use Rattle.ref_terms.specs.lemmas.ReadyFacts.{ready-var, ready-lam}
 
 -- a fact on what a node reads as, by what stands at it
 pub by-node : (P : Term → Type 0) (g : Graph) (t : ℕ) (n : Node) → IsSound g → node_at g.nodes t ≡ Some n → ((env : ℕ → Term) → ArePlaces env → P (node_reads g n env)) → (env : ℕ → Term) → ArePlaces env → P (read g t env)
@@ -111,27 +113,49 @@ firm-lam b w = go (eta b) (eta-some b)
 pub lam-firm : (g : Graph) (t d : ℕ) (b : TermId) → IsSound g → node_at g.nodes t ≡ Some (Lam d b) → IsFirmNode g b.index → IsFirmNode g t
 lam-firm g t d b s e w = by-node IsFirm g t (Lam d b) s e (λ env p. firm-lam (read g b.index (enter d env)) (w (enter d env) (places-enter d env p)))
 
--- such a term isn't ready
-pub firm-unready : (t : Term) → IsFirm t → ready t ≡ false
-unfolding ready
-firm-unready (term.Lam b) w = refl
-firm-unready (At (term.Con c)) w = refl
-firm-unready (At (term.Int c)) w = refl
-firm-unready (At (term.Str c)) w = refl
-firm-unready (At (term.Name c)) w = absurd w
-firm-unready (At (term.Bound c)) w = absurd w
-firm-unready (At (term.Var c)) w = refl
-firm-unready (term.App f a) w = refl
-
+-- an abstraction isn't ready
 pub abstraction-unready : (t : Term) → IsAbstraction t → ready t ≡ false
 unfolding ready
 abstraction-unready (term.Lam b) w = refl
 abstraction-unready (At h) w = absurd w
 abstraction-unready (term.App f a) w = absurd w
 
-pub app-unready : (f a : Term) → ready (term.App f a) ≡ false
+app-ready : (f a : Term) → ready (term.App f a) ≡ ready f
 unfolding ready
-app-unready f a = refl
+app-ready f a = refl
+
+-- a term that is no abstraction is as ready before arguments
+pub applied-ready : (xs : List Term) (t : Term) → IsPlain t → ready (apply_all t xs) ≡ ready t
+applied-ready [] t w = refl
+applied-ready (x ∷ xs) t w = applied-ready xs (apply t x) (subst IsPlain (sym (apply-plain t x w)) tt) ∙ ap ready (apply-plain t x w) ∙ app-ready t x
+
+ready-plain : (t : Term) → ready t ≡ true → IsPlain t
+ready-plain (term.Lam b) h = absurd (let e : false ≡ true = sym (ready-lam b) ∙ h in cc)
+ready-plain (At k) h = tt
+ready-plain (term.App f a) h = tt
+
+-- places are ready
+pub level-ready : (g : Graph) (t l : ℕ) → IsSound g → node_at g.nodes t ≡ Some (Level l) → IsReadyNode g t
+level-ready g t l s e = by-node (λ x. ready x ≡ true) g t (Level l) s e (λ env p. places-ready env p l)
+
+pub head-ready : (h : Head) → IsRigidHead h → ready (At h) ≡ true
+unfolding ready
+head-ready (term.Con c) w = refl
+head-ready (term.Int c) w = refl
+head-ready (term.Str c) w = refl
+head-ready (term.Name c) w = refl
+head-ready (term.Bound c) w = refl
+head-ready (term.Var c) w = absurd w
+
+-- applications of such nodes
+pub applied-rigid : (g : Graph) (t : ℕ) (k : TermId) (ts : List TermId) → IsSound g → node_at g.nodes t ≡ Some (App k ts) → IsReadyNode g k.index → IsReadyNode g t
+applied-rigid g t k ts s e w = by-node (λ x. ready x ≡ true) g t (App k ts) s e (λ env p.
+    applied-ready (map (λ u. read g u.index env) ts) (read g k.index env) (ready-plain (read g k.index env) (w env p)) ∙ w env p)
+
+pub applied-open : (g : Graph) (t : ℕ) (k : TermId) (ts : List TermId) → IsSound g → node_at g.nodes t ≡ Some (App k ts) → IsOpenNode g k.index → (env : ℕ → Term) → ArePlaces env → ready (read g t env) ≡ false
+applied-open g t k ts s e w = by-node (λ x. ready x ≡ false) g t (App k ts) s e (λ env p.
+    let here = w env p in
+    applied-ready (map (λ u. read g u.index env) ts) (read g k.index env) here.0 ∙ here.1)
 
 -- below an abstraction that the node doesn't reach
 up-places : ArePlaces (λ i. At (term.Bound (suc i)))
@@ -255,27 +279,22 @@ leaf-ends g t depth n s e w env p = ap eta (nodes_read g t n (enter depth env) s
 pub reads-level : (g : Graph) (t l : ℕ) → IsSound g → node_at g.nodes t ≡ Some (Level l) → (env : ℕ → Term) → ArePlaces env → read g t env ≡ env l
 reads-level g t l s e env p = nodes_read g t (Level l) env s p e
 
-applied-unready : (xs : List Term) (t : Term) → IsPlain t → 0 < length xs → ready (apply_all t xs) ≡ false
-applied-unready [] t w h = absurd (omega (arith, h))
-applied-unready (x ∷ []) t w h = ap ready (apply-plain t x w) ∙ app-unready t x
-applied-unready (x ∷ y ∷ xs) t w h = applied-unready (y ∷ xs) (apply t x) (subst IsPlain (sym (apply-plain t x w)) tt) (omega arith)
-
-pub plain-unready : (g : Graph) (t : ℕ) (k : TermId) (ts : List TermId) → IsSound g → node_at g.nodes t ≡ Some (App k ts) → IsPlainNode g k.index → 0 < length ts → (env : ℕ → Term) → ArePlaces env → ready (read g t env) ≡ false
-plain-unready g t k ts s e w long env p =
-    ap ready (nodes_read g t (App k ts) env s p e)
-    ∙ applied-unready (map (λ u. read g u.index env) ts) (read g k.index env) (w env p) (let l = length-map ts (λ u. read g u.index env) in omega (arith, l, long))
-
 -- a variable that has a value reads as it
 pub reads-value : (g : Graph) (t value : ℕ) (v : VarId) → IsSound g → node_at g.nodes t ≡ Some (Var v) → value_in g.assigned v.index ≡ Some value → (env : ℕ → Term) → ArePlaces env → read g t env ≡ read g value env
 reads-value g t value v s e f env p = nodes_read g t (Var v) env s p e ∙ ap (λ o. variable_reads g v.index o env) f
 
 pub var-unready : (g : Graph) (t : ℕ) (v : VarId) → IsSound g → node_at g.nodes t ≡ Some (Var v) → value_in g.assigned v.index ≡ None → (env : ℕ → Term) → ArePlaces env → ready (read g t env) ≡ false
-var-unready g t v s e f env p = firm-unready (read g t env) (var-firm g t v s e f env p)
+var-unready g t v s e f = by-node (λ x. ready x ≡ false) g t (Var v) s e (λ env p.
+    ap (λ o. ready (variable_reads g v.index o env)) f ∙ applied-ready (levels (slice_index g.depths v.index) env) (At (term.Var v.index)) tt ∙ ready-var v.index)
 
-pub readiness-before : (u w : Term) (d s : ℕ) (r : Readiness) → u ≡ w → d ≤ s → IsReadiness d w r → IsReadiness s u r
-readiness-before u w d s (some_level k) e l h = (e ∙ h.0, let q = h.1 in omega (arith, l, q))
-readiness-before u w d s Unready e l h = ap ready e ∙ h
-readiness-before u w d s Unknown e l h = tt
+pub var-is_open : (g : Graph) (t : ℕ) (v : VarId) → IsSound g → node_at g.nodes t ≡ Some (Var v) → value_in g.assigned v.index ≡ None → IsOpenNode g t
+var-is_open g t v s e f = λ env p. (var-plain g t v s e f env p, var-unready g t v s e f env p)
+
+pub readiness-before : (g : Graph) (u w : Term) (d s : ℕ) (r : Readiness) → u ≡ w → d ≤ s → IsReadiness g d w r → IsReadiness g s u r
+readiness-before g u w d s (some_level k) e l h = (e ∙ h.0, let q = h.1 in omega (arith, l, q))
+readiness-before g u w d s (Ready r) e l h = (e ∙ h.0, valid_deeper g r.index d s h.1 l, ap ready e ∙ h.2)
+readiness-before g u w d s Unready e l h = ap ready e ∙ h
+readiness-before g u w d s Unknown e l h = tt
 
 -- nodes that are there
 pub lam-known : (g : Graph) (t : TermId) (d : ℕ) (b : TermId) → IsSound g → node_at g.nodes t.index ≡ Some (Lam d b) → IsLamOf d (value_of g b) (value_of g t)

@@ -7,10 +7,11 @@ use Rattle.beta_fragment.specs.Names.{names}
 use Rattle.beta_fragment.specs.Firm.{IsReadiness}
 use Rattle.beta_fragment.specs.Turn.{IsFirst, NoneReady}
 use Rattle.beta_fragment.specs.declared.glance.Readiness.{Readiness}
-use Rattle.beta_fragment.specs.declared.glance.Readiness.TheVariants.{Level, Unready, Unknown}
+use Rattle.beta_fragment.specs.declared.glance.Readiness.TheVariants.{Level, Ready, Unready, Unknown}
 
-pub first-known : (g : Graph) (depth : ℕ) (a : TermId) (more : List TermId) (r : Readiness) → IsReadiness depth (read g a.index names) r → IsFirst g depth (a ∷ more) r
+pub first-known : (g : Graph) (depth : ℕ) (a : TermId) (more : List TermId) (r : Readiness) → IsReadiness g depth (read g a.index names) r → IsFirst g depth (a ∷ more) r
 first-known g depth a more (Level k) h = h
+first-known g depth a more (Ready r) h = h
 first-known g depth a more Unready h = h
 first-known g depth a more Unknown h = tt
 

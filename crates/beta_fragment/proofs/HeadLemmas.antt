@@ -92,7 +92,7 @@ terms-read : (g : Graph) (ts : List TermId) → map (λ (y : Value). y.term name
 terms-read g [] = refl
 terms-read g (t ∷ ts) = ap (λ (xs : List Term). read g t.index names ∷ xs) (terms-read g ts)
 
-valid-append : (g : Graph) (d : ℕ) (xs ys : List TermId) → AllValidAt g xs d → AllValidAt g ys d → AllValidAt g (xs ++ ys) d
+pub valid-append : (g : Graph) (d : ℕ) (xs ys : List TermId) → AllValidAt g xs d → AllValidAt g ys d → AllValidAt g (xs ++ ys) d
 valid-append g d [] ys v w = w
 valid-append g d (x ∷ xs) ys v w = (v.0, valid-append g d xs ys v.1 w)
 

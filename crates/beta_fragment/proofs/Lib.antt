@@ -17,6 +17,7 @@ pub mod NamelessLemmas
 pub mod PutLemmas
 pub mod PutWork
 pub mod FilledLemmas
+pub mod StandLemmas
 pub mod LevelLemmas
 pub mod CellLemmas
 pub mod LevelListLemmas

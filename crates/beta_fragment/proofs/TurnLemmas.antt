@@ -25,7 +25,7 @@ use Rattle.beta_fragment.specs.HeadForm.{AllValidAt, all_read, FirstUnready}
 use Rattle.beta_fragment.specs.Firm.{IsSpine}
 use Rattle.beta_fragment.specs.Turn.{GoesOn, NoneReady, IsFirst}
 use Rattle.beta_fragment.specs.Spine.{args_in}
-use Rattle.beta_fragment.specs.declared.glance.Readiness.TheVariants.{Level}
+use Rattle.beta_fragment.specs.declared.glance.Readiness.TheVariants.{Level, Ready}
 use Rattle.std.specs.Option.{option_to_list}
 use Rattle.beta_fragment.proofs.SplitLemmas.{empty-list}
 use Rattle.beta_fragment.proofs.ReadLemmas.{valid-below, grown-reads}
@@ -135,6 +135,13 @@ pop-split g depth k items items' (Some a) e z f =
     let order : reverse items ≡ a ∷ reverse items' = ap reverse e ∙ newest-arg items' a in
     let first = subst (λ ts. IsFirst g depth ts (Level k)) order f in
     (a, e, first.0, first.1)
+
+pub pop-ready : (g : Graph) (depth : ℕ) (r : TermId) (items items' : List TermId) (o : Option TermId) → items ≡ items' ++ option_to_list o → (o ≡ None → length items ≡ 0) → IsFirst g depth (reverse items) (Ready r) → (a : TermId) × (items ≡ items' ++ a ∷ []) × (read g a.index names ≡ read g r.index names) × IsValid g r.index depth × (ready (read g r.index names) ≡ true)
+pop-ready g depth r items items' None e z f = absurd (subst (λ ts. IsFirst g depth (reverse ts) (Ready r)) (empty-list items (z refl)) f)
+pop-ready g depth r items items' (Some a) e z f =
+    let order : reverse items ≡ a ∷ reverse items' = ap reverse e ∙ newest-arg items' a in
+    let first = subst (λ ts. IsFirst g depth ts (Ready r)) order f in
+    (a, e, first.0, first.1, ap ready (sym first.0) ∙ first.2)
 
 -- a level's name
 pub level-reads : (g : Graph) (t l n : ℕ) (ls : List ℕ) → IsSound g → node_at g.nodes t ≡ Some (node_level l) → IsValid g t (length ls) → n ≡ slice_index ls l → read g t (renamed ls) ≡ names n

@@ -26,6 +26,11 @@ HasParts n (Lam b) = b < n
 HasParts n (App f a) = (f < n) × (a < n)
 HasParts n _ = Unit {0}
 
+-- no application
+abbrev pub IsNoApp : Cell → Type 0
+IsNoApp (App f a) = ⊥
+IsNoApp _ = Unit {0}
+
 -- the terms of cells, newest first
 abbrev pub terms_of : List Cell → List Term
 terms_of [] = []

@@ -1,10 +1,11 @@
 -- What is certain of a term at a glance.
-use Rattle.std.specs.Prelude.{◌≡◌, ℕ, ◌<◌, ◌⊎◌, false, List, [], ◌∷◌, length, map, Option, Some, None, reverse}
+use Rattle.std.specs.Prelude.{◌≡◌, ℕ, ◌<◌, ◌⊎◌, true, false, List, [], ◌∷◌, length, map, Option, Some, None, reverse}
 use Rattle.level_terms.specs.declared.node.TermId.{TermId}
 use Rattle.level_terms.specs.Graph.{Graph}
 use Rattle.level_terms.specs.Laws.{ArePlaces}
 use Rattle.level_terms.specs.Sound.{AllOlder}
 use Rattle.level_terms.specs.Reading.{read, enter}
+use Rattle.level_terms.specs.Valid.{IsValid}
 use Rattle.ref_terms.specs.terms.Term as term
 use Rattle.ref_terms.specs.terms.Term.{Term, Head}
 use Rattle.ref_terms.specs.terms.Eta.{eta, partial}
@@ -13,7 +14,7 @@ use Rattle.ref_terms.specs.unification.Spine.{apply_all, head_of}
 use Rattle.beta_fragment.specs.Names.{names, renamed}
 use Rattle.beta_fragment.specs.HeadForm.{all_read, AllValidAt, IsAbstraction}
 use Rattle.beta_fragment.specs.declared.glance.Readiness.{Readiness}
-use Rattle.beta_fragment.specs.declared.glance.Readiness.TheVariants.{Level, Unready, Unknown}
+use Rattle.beta_fragment.specs.declared.glance.Readiness.TheVariants.{Level, Ready, Unready, Unknown}
 
 -- no abstraction
 abbrev pub IsPlain : Term → Type 0
@@ -41,6 +42,13 @@ IsFirmNode g t = (env : ℕ → Term) → ArePlaces env → IsFirm (read g t env
 abbrev pub IsPlainNode : Graph → ℕ → Type 0
 IsPlainNode g t = (env : ℕ → Term) → ArePlaces env → IsPlain (read g t env)
 
+abbrev pub IsReadyNode : Graph → ℕ → Type 0
+IsReadyNode g t = (env : ℕ → Term) → ArePlaces env → ready (read g t env) ≡ true
+
+-- no abstraction, and not ready
+abbrev pub IsOpenNode : Graph → ℕ → Type 0
+IsOpenNode g t = (env : ℕ → Term) → ArePlaces env → IsPlain (read g t env) × (ready (read g t env) ≡ false)
+
 abbrev pub IsAbstractionNode : Graph → ℕ → Type 0
 IsAbstractionNode g t = (env : ℕ → Term) → ArePlaces env → IsAbstraction (read g t env)
 
@@ -53,10 +61,11 @@ abbrev pub IsOther : Graph → (depth t : ℕ) → Type 0
 IsOther g depth t = (env : ℕ → Term) → ArePlaces env → read g t (enter depth env) ≡ term.At (term.Bound 0) → ⊥
 
 -- what a look at an argument that is valid at a depth says
-abbrev pub IsReadiness : (depth : ℕ) → Term → Readiness → Type 0
-IsReadiness depth u (Level k) = (u ≡ names k) × (k < depth)
-IsReadiness depth u Unready = ready u ≡ false
-IsReadiness depth u Unknown = Unit {0}
+abbrev pub IsReadiness : Graph → (depth : ℕ) → Term → Readiness → Type 0
+IsReadiness g depth u (Level k) = (u ≡ names k) × (k < depth)
+IsReadiness g depth u (Ready r) = (u ≡ read g r.index names) × IsValid g r.index depth × (ready u ≡ true)
+IsReadiness g depth u Unready = ready u ≡ false
+IsReadiness g depth u Unknown = Unit {0}
 
 -- the term is the node at the head, with its levels renamed, applied to the arguments, of which the first is the last in the list
 pub record IsSpine (g : Graph) (depth : ℕ) (u : Term) (head : ℕ) (levels : List ℕ) (args : List TermId) : Type 0 where

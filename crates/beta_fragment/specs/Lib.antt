@@ -6,6 +6,7 @@ pub mod Work
 pub mod Firm
 pub mod Spine
 pub mod Turn
+pub mod Standing
 pub mod Cells
 pub mod Quoted
 pub mod LevelList

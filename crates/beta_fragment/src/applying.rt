@@ -5,38 +5,37 @@ ghost use Rattle.ref_terms.specs.terms.Term as term;
 ghost use Rattle.ref_terms.specs.terms.Term.{Term};
 ghost use Rattle.ref_terms.specs.terms.Apply.{apply};
 ghost use Rattle.ref_terms.specs.terms.Eta.{lam, eta};
-ghost use Rattle.ref_terms.specs.terms.Ready.{ready, ready_head};
-ghost use Rattle.beta_fragment.specs.Cells.{terms_of, term_at, cell_term, Gains, IsKept, IsKeptIfAny};
-ghost use Rattle.beta_fragment.specs.HeadForm.{rigid_head};
+ghost use Rattle.ref_terms.specs.terms.Ready.{ready};
+ghost use Rattle.beta_fragment.specs.Cells.{IsNoApp, terms_of, term_at, cell_term, Gains, IsKept, IsKeptIfAny};
 ghost use Rattle.beta_fragment.specs.Taking.{IsFirstIndex};
 
-use crate::answer::RigidHead;
 use crate::cells::{Cell, Cells};
 use crate::taking::{lowered_term, opened_term};
 use std::alloc::{AllocError, Global};
 
-/// Whether a head is a name.
-fn is_name(head: RigidHead) -> bool
-    ensures { ready_head (rigid_head head) ≡ result }
+/// Whether an abstraction takes the term: no abstraction and no variable is at its head.
+fn is_ready(cells: &Cells, t: usize) -> bool
+    requires { t < length (terms_of cells.now) }
+    ensures { ready (term_at (terms_of cells.now) t) ≡ result }
 {
-    match head {
-        RigidHead::Con(_) => false,
-        RigidHead::Int(_) => false,
-        RigidHead::Str(_) => false,
-        RigidHead::Level(_) => true,
+    let mut head = t;
+    while let Cell::App(f, _) = cells.get(head) {
+        head = f;
     }
+    is_ready_cell(cells.get(head))
 }
 
-/// Whether the cell is of a name or an index.
-fn is_ready(cell: Cell) -> bool
+/// The same of a term that is no application.
+fn is_ready_cell(cell: Cell) -> bool
+    requires { IsNoApp cell }
     ensures { (ts : List Term) → ready (cell_term ts cell) ≡ result }
 {
     match cell {
-        Cell::Rigid(h) => is_name(h),
+        Cell::Rigid(_) => true,
         Cell::Bound(_) => true,
         Cell::Var(_) => false,
         Cell::Lam(_) => false,
-        Cell::App(_, _) => false,
+        Cell::App(_, _) => unreachable!(),
     }
 }
 
@@ -55,13 +54,13 @@ fn applied_lam(
     ensures applied { IfOk result (λ r. IsKept (terms_of cells.new) r (apply (term_at (terms_of cells.old) f) (term_at (terms_of cells.old) a))) }
     ensures gains { Gains (terms_of cells.old) (terms_of cells.new) }
 {
-    if is_ready(cells.get(a)) {
+    if is_ready(cells, a) {
         return opened_term(alloc, cells, body, a);
     }
     cells.add(Cell::App(f, a))
 }
 
-/// The application: an abstraction takes an argument that is a name or an index at once.
+/// The application: an abstraction takes an argument that is ready.
 pub(crate) fn applied_term(
     alloc: Global,
     cells: &mut Cells,

@@ -6,7 +6,7 @@ ghost use Rattle.level_terms.specs.Valid.{IsValid};
 ghost use Rattle.level_terms.specs.Reading.{read};
 ghost use Rattle.beta_fragment.specs.Names.{names};
 ghost use Rattle.beta_fragment.specs.Moves.{IsVarOf, value_of};
-ghost use Rattle.beta_fragment.specs.Firm.{IsFirmNode, IsPlainNode, IsAbstractionNode, EndsOtherwise, IsOther, IsReadiness, HasLevel, SomeHas, AllThere};
+ghost use Rattle.beta_fragment.specs.Firm.{IsFirmNode, IsPlainNode, IsReadyNode, IsOpenNode, IsAbstractionNode, EndsOtherwise, IsOther, IsReadiness, HasLevel, SomeHas, AllThere};
 
 use level_terms::{Heap, Node, TermId, VarId};
 
@@ -15,6 +15,8 @@ use level_terms::{Heap, Node, TermId, VarId};
 pub(crate) enum Readiness {
     /// The name of a level.
     Level(usize),
+    /// Another term that is ready, which this node reads as: an abstraction takes it.
+    Ready(TermId),
     /// Nothing that an abstraction takes.
     Unready,
     /// More has to be done to tell.
@@ -89,6 +91,33 @@ fn is_firm_head(heap: &Heap, t: TermId) -> bool
         Node::Con(_) => true,
         Node::Int(_) => true,
         Node::Str(_) => true,
+        Node::Var(v) => is_free(heap, *v),
+        _ => false,
+    }
+}
+
+/// Whether the node is a constant, an integer, a string or a level.
+fn is_rigid(heap: &Heap, t: TermId) -> bool
+    requires { t.index < length heap.now.nodes }
+    ensures { IsTrue result → IsReadyNode heap.now t.index }
+{
+    heap.is_sound();
+    match heap.view(t) {
+        Node::Con(_) => true,
+        Node::Int(_) => true,
+        Node::Str(_) => true,
+        Node::Level(_) => true,
+        _ => false,
+    }
+}
+
+/// Whether the node is a variable that has no value.
+fn is_open(heap: &Heap, t: TermId) -> bool
+    requires { t.index < length heap.now.nodes }
+    ensures { IsTrue result → IsOpenNode heap.now t.index }
+{
+    heap.is_sound();
+    match heap.view(t) {
         Node::Var(v) => is_free(heap, *v),
         _ => false,
     }
@@ -247,7 +276,7 @@ pub(crate) fn is_abstraction(heap: &Heap, t: TermId) -> bool
 /// Whether an argument is ready, as far as a look can say.
 pub(crate) fn looked_at(heap: &Heap, t: TermId) -> Readiness
     requires { t.index < length heap.now.nodes }
-    ensures { (s : ℕ) → IsValid heap.now t.index s → IsReadiness s (read heap.now t.index names) result }
+    ensures { (s : ℕ) → IsValid heap.now t.index s → IsReadiness heap.now s (read heap.now t.index names) result }
 {
     heap.is_sound();
     let mut node = t;
@@ -263,15 +292,16 @@ pub(crate) fn looked_at(heap: &Heap, t: TermId) -> Readiness
 /// The same of a node that is no variable.
 fn looked_at_end(heap: &Heap, t: TermId) -> Readiness
     requires { t.index < length heap.now.nodes }
-    ensures { (s : ℕ) → IsValid heap.now t.index s → IsReadiness s (read heap.now t.index names) result }
+    ensures { (s : ℕ) → IsValid heap.now t.index s → IsReadiness heap.now s (read heap.now t.index names) result }
 {
     heap.is_sound();
     match heap.view(t) {
         Node::Level(l) => Readiness::Level(*l),
-        Node::App { head, .. } if is_plain(heap, *head) => Readiness::Unready,
+        Node::App { head, .. } if is_rigid(heap, *head) => Readiness::Ready(t),
+        Node::App { head, .. } if is_open(heap, *head) => Readiness::Unready,
         _ => {
-            if is_firm(heap, t) {
-                return Readiness::Unready;
+            if is_rigid(heap, t) {
+                return Readiness::Ready(t);
             }
             if is_abstraction(heap, t) {
                 return Readiness::Unready;

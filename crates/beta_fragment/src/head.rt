@@ -3,8 +3,8 @@
 //! The head is followed through applications, values and abstractions that take a ready argument.
 //! The levels of the head's node stand for names, so that no body is copied.
 
-ghost use Rattle.std.specs.Prelude.{◌≡◌, ℕ, [], ◌∷◌, ◌++◌, ◌<◌, ◌≤◌, length, map, drop, reverse, slice_index, slice_get, IfOk, OnOk, None, Some};
-ghost use Rattle.level_terms.specs.Graph.{node_at, value_in};
+ghost use Rattle.std.specs.Prelude.{◌≡◌, ℕ, [], ◌∷◌, ◌++◌, ◌<◌, ◌≤◌, length, map, drop, reverse, slice_index, slice_get, true, IfOk, IfSome, IsTrue, OnOk, None, Some};
+ghost use Rattle.level_terms.specs.Graph.{Graph, node_at, value_in};
 ghost use Rattle.level_terms.specs.Sound.{IsSound};
 ghost use Rattle.level_terms.specs.Valid.{IsValid};
 ghost use Rattle.level_terms.specs.Reading.{read};
@@ -12,6 +12,7 @@ ghost use Rattle.level_terms.specs.Growth.{Grows};
 ghost use Rattle.level_terms.specs.declared.node.Node.TheVariants.{Lam as lam_node, App as app_node, Var as var_node};
 ghost use Rattle.ref_terms.specs.terms.Term as term;
 ghost use Rattle.ref_terms.specs.terms.Term.{Term};
+ghost use Rattle.ref_terms.specs.terms.Ready.{ready};
 ghost use Rattle.ref_terms.specs.unification.Spine.{apply_all};
 ghost use Rattle.beta_fragment.specs.Names.{names, renamed, AllBelow};
 ghost use Rattle.beta_fragment.specs.Moves.{IsMove, IsVarOf, value_of};
@@ -19,7 +20,7 @@ ghost use Rattle.beta_fragment.specs.HeadForm.{IsHeadForm, AllValidAt, all_read,
 ghost use Rattle.beta_fragment.specs.Firm.{IsSpine, IsAbstractionNode};
 ghost use Rattle.beta_fragment.specs.Spine.{args_in};
 ghost use Rattle.beta_fragment.specs.Body.{IsLam};
-ghost use Rattle.beta_fragment.specs.Turn.{IsTurn, NoneReady, IsFirst};
+ghost use Rattle.beta_fragment.specs.Turn.{IsTurn, NoneReady, IsFirst, FirstReady, IsFirstArg};
 
 use crate::answer::{RigidHead, Whnf};
 use crate::glance::{Readiness, bare_var_of, is_abstraction, looked_at};
@@ -27,12 +28,89 @@ use crate::levels::Levels;
 use crate::renaming::{made_lam, moved_levels, moved_node, sum_of};
 use crate::rigid_form::rigid_application;
 use crate::settling::settled;
+use crate::standing::placed;
 use level_terms::{Heap, Node, TermId, TermIds, VarId};
 use std::alloc::{AllocError, Global};
+
+/// How many arguments inside each other are looked into, to see whether an abstraction takes them.
+const NESTING: usize = 1000;
 
 /// What the term is: an abstraction exactly where it reads as one, and else its head with all its
 /// arguments. Makes no variable. Answers `AllocError` on want of memory alone.
 pub fn whnf(alloc: Global, heap: &mut Heap, t: TermId, depth: usize) -> Result<Whnf, AllocError>
+    requires { IsValid heap.old t.index depth }
+    ensures form { IfOk result (λ w. IsHeadForm heap.new depth (read heap.old t.index names) w) }
+    ensures variables { heap.new.depths ≡ heap.old.depths }
+    ensures grows { Grows heap.old heap.new [] [] }
+{
+    whnf_within(alloc, heap, t, depth, NESTING)
+}
+
+/// The argument that an abstraction stands before, where no look tells whether it takes it.
+fn asked(heap: &Heap, head: TermId, args: &[TermId], depth: usize) -> Option<TermId>
+    requires head { head.index < length heap.now.nodes }
+    requires args { AllValidAt heap.now (reverse args.now) depth }
+    ensures { IfSome result (λ a. IsFirstArg a (reverse args.now)) }
+{
+    heap.is_sound();
+    if !matches!(heap.view(head), Node::Lam { .. }) {
+        return None;
+    }
+    match args.last() {
+        Some(arg) => match looked_at(heap, *arg) {
+            Readiness::Unknown => Some(*arg),
+            _ => None,
+        },
+        None => None,
+    }
+}
+
+/// Whether the form is of a rigid head.
+fn is_rigid_form(form: &Whnf) -> bool
+    ensures { (g : Graph) (depth : ℕ) (u : Term) → IsHeadForm g depth u form.now → IsTrue result → ready u ≡ true }
+{
+    matches!(form, Whnf::Rigid(_, _))
+}
+
+/// Whether an abstraction stands at the head before an argument that is ready, where only the
+/// argument's own form tells.
+#[cycle(head)]
+fn takes_first(
+    alloc: Global,
+    heap: &mut Heap,
+    head: TermId,
+    args: &[TermId],
+    depth: usize,
+    nesting: usize,
+) -> Result<bool, AllocError>
+    requires head { head.index < length heap.old.nodes }
+    requires args { AllValidAt heap.old (reverse args.now) depth }
+    ensures ready { IfOk result (λ r. IsTrue r → FirstReady heap.new (reverse args.now)) }
+    ensures variables { heap.new.depths ≡ heap.old.depths }
+    ensures grows { Grows heap.old heap.new [] [] }
+{
+    heap.is_sound();
+    if nesting == 0 {
+        return Ok(false);
+    }
+    match asked(heap, head, args, depth) {
+        Some(arg) => {
+            let form = whnf_within(alloc, heap, arg, depth, nesting - 1)?;
+            Ok(is_rigid_form(&form))
+        }
+        None => Ok(false),
+    }
+}
+
+/// The same, where so many arguments inside each other are looked into.
+#[cycle(head)]
+fn whnf_within(
+    alloc: Global,
+    heap: &mut Heap,
+    t: TermId,
+    depth: usize,
+    nesting: usize,
+) -> Result<Whnf, AllocError>
     requires { IsValid heap.old t.index depth }
     ensures form { IfOk result (λ w. IsHeadForm heap.new depth (read heap.old t.index names) w) }
     ensures variables { heap.new.depths ≡ heap.old.depths }
@@ -45,11 +123,30 @@ pub fn whnf(alloc: Global, heap: &mut Heap, t: TermId, depth: usize) -> Result<W
     let mut levels = Levels::own(alloc, depth);
     let mut fixed = depth;
     let mut args = Vec::new(alloc);
+    let mut puts = Vec::new(alloc);
+    let mut to = depth;
     let mut head = t;
     loop {
-        match one_turn(alloc, heap, head, depth, &mut levels, &mut fixed, &mut args)? {
+        heap.is_sound();
+        let known = takes_first(alloc, heap, head, args.as_slice(), to, nesting)?;
+        heap.is_sound();
+        match one_turn(
+            alloc,
+            heap,
+            head,
+            to,
+            &mut levels,
+            &mut fixed,
+            &mut args,
+            known,
+        )? {
             Turn::Goes(next) => head = next,
-            Turn::Ends(form) => return Ok(form),
+            Turn::Takes(next, arg) => {
+                to = sum_of(to, 1)?;
+                puts.push(arg)?;
+                head = next;
+            }
+            Turn::Ends(form) => return placed(alloc, heap, depth, to, puts, form),
         }
     }
 }
@@ -59,6 +156,8 @@ pub fn whnf(alloc: Global, heap: &mut Heap, t: TermId, depth: usize) -> Result<W
 enum Turn {
     /// This node is at the head now.
     Goes(TermId),
+    /// The first node is at the head now, and the name of the depth stands for the second one.
+    Takes(TermId, TermId),
     /// The form is found.
     Ends(Whnf),
 }
@@ -279,17 +378,19 @@ fn turn_lam(
     levels: &mut Levels,
     fixed: &mut usize,
     args: &mut Vec<TermId>,
+    known: bool,
 ) -> Result<Turn, AllocError>
     requires here { node_at heap.old.nodes head.index ≡ Some (lam_node made body) }
     requires moves { IsMove levels.old fixed.old depth }
     requires valid { IsValid heap.old head.index (length levels.old) }
     requires args { AllValidAt heap.old (reverse args.old.items) depth }
+    requires known { IsTrue known → FirstReady heap.old (reverse args.old.items) }
     ensures turn { IfOk result (λ w. IsTurn depth heap.old heap.new head.index levels.old levels.new fixed.new args.old.items args.new.items w) }
     ensures variables { heap.new.depths ≡ heap.old.depths }
     ensures grows { Grows heap.old heap.new [] [] }
 {
     heap.is_sound();
-    match first_of(heap, args.as_slice(), depth) {
+    match first_of(heap, args.as_slice(), depth, known) {
         Readiness::Level(k) => {
             args.pop();
             levels.truncate(made);
@@ -311,6 +412,13 @@ fn turn_lam(
             )?;
             Ok(Turn::Ends(form))
         }
+        Readiness::Ready(arg) => {
+            args.pop();
+            levels.truncate(made);
+            levels.push(depth)?;
+            *fixed = (*fixed).min(made);
+            Ok(Turn::Takes(body, arg))
+        }
         Readiness::Unknown => {
             let form = settled(alloc, heap, head, levels, args.as_slice(), depth)?;
             Ok(Turn::Ends(form))
@@ -318,14 +426,21 @@ fn turn_lam(
     }
 }
 
-/// Whether the first argument is ready, as far as a look can say. Without an argument, none is.
-fn first_of(heap: &Heap, args: &[TermId], depth: usize) -> Readiness
-    requires { AllValidAt heap.now (reverse args.now) depth }
+/// Whether the first argument is ready, where that is known, and else as far as a look can say.
+/// Without an argument, none is.
+fn first_of(heap: &Heap, args: &[TermId], depth: usize, known: bool) -> Readiness
+    requires args { AllValidAt heap.now (reverse args.now) depth }
+    requires known { IsTrue known → FirstReady heap.now (reverse args.now) }
     ensures { IsFirst heap.now depth (reverse args.now) result }
 {
     heap.is_sound();
     match args.last() {
-        Some(arg) => looked_at(heap, *arg),
+        Some(arg) => {
+            if known {
+                return Readiness::Ready(*arg);
+            }
+            looked_at(heap, *arg)
+        }
         None => Readiness::Unready,
     }
 }
@@ -339,10 +454,12 @@ fn one_turn(
     levels: &mut Levels,
     fixed: &mut usize,
     args: &mut Vec<TermId>,
+    known: bool,
 ) -> Result<Turn, AllocError>
     requires moves { IsMove levels.old fixed.old depth }
     requires valid { IsValid heap.old head.index (length levels.old) }
     requires args { AllValidAt heap.old (reverse args.old.items) depth }
+    requires known { IsTrue known → FirstReady heap.old (reverse args.old.items) }
     ensures turn { IfOk result (λ w. IsTurn depth heap.old heap.new head.index levels.old levels.new fixed.new args.old.items args.new.items w) }
     ensures variables { heap.new.depths ≡ heap.old.depths }
     ensures grows { Grows heap.old heap.new [] [] }
@@ -387,7 +504,9 @@ fn one_turn(
         Node::Lam { depth: made, body } => {
             let made = *made;
             let body = *body;
-            turn_lam(alloc, heap, head, made, body, depth, levels, fixed, args)
+            turn_lam(
+                alloc, heap, head, made, body, depth, levels, fixed, args, known,
+            )
         }
         Node::App {
             head: inner,

@@ -21,6 +21,7 @@ mod quoting;
 mod renaming;
 mod rigid_form;
 mod settling;
+mod standing;
 mod taking;
 
 pub use answer::{Names, RigidHead, UnifyStop, Whnf};

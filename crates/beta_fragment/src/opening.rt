@@ -109,7 +109,7 @@ fn filled(
 }
 
 /// The node with another in the place of the name of the depth.
-fn put_name(
+pub(crate) fn put_name(
     alloc: Global,
     heap: &mut Heap,
     put: TermId,

@@ -33,7 +33,7 @@ pub(crate) fn rigid_application(
 }
 
 /// The head that the node is, where it is a constant, a string or a level.
-fn rigid_leaf(heap: &Heap, t: TermId) -> Option<RigidHead>
+pub(crate) fn rigid_leaf(heap: &Heap, t: TermId) -> Option<RigidHead>
     requires { t.index < length heap.now.nodes }
     ensures { IfSome result (λ h. read heap.now t.index names ≡ term.At (rigid_head h)) }
 {

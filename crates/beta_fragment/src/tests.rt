@@ -45,13 +45,13 @@ fn made_sample(heap: &mut Heap) -> Result<Sample, AllocError>
 }
 
 #[test]
-fn keeps_a_redex(rt: HostRuntime) -> Result<(), Fail> {
+fn takes_a_constant(rt: HostRuntime) -> Result<(), Fail> {
     let mut heap = Heap::new(rt.alloc());
     let s = made_sample(&mut heap)?;
     match whnf(rt.alloc(), &mut heap, s.redex, 0)? {
-        Whnf::Redex(lam, args) => {
-            assert_eq!(rt; lam, s.lam);
-            assert_eq!(rt; args.as_slice(), [s.constant].as_slice());
+        Whnf::Rigid(head, args) => {
+            assert_eq!(rt; head, RigidHead::Con(Sym(1)));
+            assert_eq!(rt; args.as_slice(), [s.constant, s.constant].as_slice());
         }
         _ => assert!(rt; false),
     }

@@ -3,6 +3,8 @@ pub mod AbstractionReachesRight
 pub mod AlignedDistinct
 pub mod AlignedRule
 pub mod AnswerLimit
+pub mod AppliedToConstant
+pub mod AppliedToOpen
 pub mod Arithmetic
 pub mod ArityOfBoundGoal
 pub mod AssumptionEnds
@@ -41,6 +43,7 @@ pub mod PrintUnderName
 pub mod PrunedArgument
 pub mod RaisedVariables
 pub mod Readings
+pub mod ReducedByValue
 pub mod SameOfVariables
 pub mod SecondInputSelects
 pub mod StuckAbstraction

@@ -17,6 +17,7 @@ pub mod JointVars
 pub mod KeptCounts
 pub mod ListVars
 pub mod NextVars
+pub mod PartnerLemmas
 pub mod ResolveVars
 pub mod RuleInstanceVars
 pub mod RuleMatchVars
@@ -25,5 +26,7 @@ pub mod StripAlike
 pub mod StripExample
 pub mod StripMoves
 pub mod TermVars
+pub mod TouchedLemmas
 pub mod UnifyFair
 pub mod UsedVars
+pub mod WakingLemmas

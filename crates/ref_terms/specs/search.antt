@@ -15,6 +15,7 @@ pub mod Instance
 pub mod Joint
 pub mod Lists
 pub mod Next
+pub mod Partners
 pub mod Program
 pub mod Renamed
 pub mod Reserved
@@ -24,5 +25,7 @@ pub mod RuleMatch
 pub mod RuleTest
 pub mod State
 pub mod Strip
+pub mod Touched
 pub mod Used
 pub mod Value
+pub mod Waking

@@ -4,6 +4,7 @@ ghost use Rattle.ref_terms.specs.laws.TermLaws.{FillTwiceIsOnce, FillAppliesTheS
 ghost use Rattle.ref_terms.specs.laws.ReadyLaws.{NameIsReady, BoundIndexIsReady, ReadyIsRigid, ReadyAfterInstance, ReadyAfterOpening, UnreadyAfterOpening};
 ghost use Rattle.ref_terms.specs.laws.UnifyLaws.{HasOneAnswer, UnificationEnds, UnifyIsReached, UnifyIsTheOnlyAnswer, StepKeepsAnswer, LastStepAnswers, StepsFall, LastStepIsOne};
 ghost use Rattle.ref_terms.specs.laws.SearchLaws.{RenamedProblemHasRenamedAnswer, RenamingOfUsedVariables, RenamedStatesMoveRenamed, AlikeStatesMoveAlike, AlikeEventsShowTheSame, AlikeStatesShowTheSame, StrippedStateMovesStripped, AlikeStatesStripAlike, AlikeOnceStrippedMoveAlike, AlikeOnceStrippedShowTheSame, FirstStateIsCounted, CountedStateMovesCounted};
+ghost use Rattle.ref_terms.specs.laws.TouchLaws.{FirstTouchedIsFirst, TouchedAfterBindings, TouchedAfterRenaming, TouchedAfterAdding, TouchedAfterLeaving, TouchedAfterFiring, TouchedAfterDropping, TouchedAfterRule, TouchedAfterWaking, TouchedRenamed, RefusedAfterFiring, FiredIsRefused, RestAfterFiring, WatchedSleepsOn, PairsShare};
 ghost use Rattle.ref_terms.specs.unification.MostGeneral.{MostGeneral};
 ghost use Rattle.ref_terms.specs.unification.RealClash.{RealClash, RealClashes};
 
@@ -149,4 +150,38 @@ pub fn law_stripped_states()
     ensures strips { AlikeStatesStripAlike }
     ensures alike { AlikeOnceStrippedMoveAlike }
     ensures run { AlikeOnceStrippedShowTheSame }
+{}
+
+/// What keeps every tuple that isn't refused among those that hold a touched pair, so that the others
+/// need not be tried: a constraint is touched when it is added, and when a variable in it gets a value.
+pub fn law_touched_pairs()
+    ensures first { FirstTouchedIsFirst }
+    ensures bindings { TouchedAfterBindings }
+    ensures renaming { TouchedAfterRenaming }
+    ensures adding { TouchedAfterAdding }
+    ensures leaving { TouchedAfterLeaving }
+    ensures firing { TouchedAfterFiring }
+    ensures dropping { TouchedAfterDropping }
+    ensures rule { TouchedAfterRule }
+    ensures waking { TouchedAfterWaking }
+    ensures renamed { TouchedRenamed }
+{}
+
+/// While rules fire one after the other, refused tuples stay refused, and so is a tuple that fired. So the
+/// search for the next one goes on after it.
+pub fn law_refused_tuples()
+    ensures stays { RefusedAfterFiring }
+    ensures fired { FiredIsRefused }
+    ensures rest { RestAfterFiring }
+{}
+
+/// A constraint whose keys are headed by watched variables sleeps on while others get values.
+pub fn law_sleeping_constraints()
+    ensures { WatchedSleepsOn }
+{}
+
+/// Constraints that a rule aligns have one variable at both arguments of each of its pairs: so partners
+/// are found by that variable.
+pub fn law_partners()
+    ensures { PairsShare }
 {}

@@ -15,22 +15,22 @@ spine_name : unified (X · x) (F · x · a) ≡ solved 10 (binds 0 (Lam (F · i0
 unfolding step ready
 spine_name = refl
 
--- X = f ((z\ z) b): a stuck redex
-redex_below : unified X (f · (Lam i0 · b)) ≡ redex_fault
+-- X = f ((z\ z) Y): a stuck redex
+redex_below : unified X (f · (Lam i0 · Y)) ≡ redex_fault
 unfolding step ready
 redex_below = refl
 
--- the first place decides: X = f x ((z\ z) b), X = f ((z\ z) b) x
-name_first : unified X (f · x · (Lam i0 · b)) ≡ clash
+-- the first place decides: X = f x ((z\ z) Y), X = f ((z\ z) Y) x
+name_first : unified X (f · x · (Lam i0 · Y)) ≡ clash
 unfolding step ready
 name_first = refl
 
-redex_first : unified X (f · (Lam i0 · b) · x) ≡ redex_fault
+redex_first : unified X (f · (Lam i0 · Y) · x) ≡ redex_fault
 unfolding step ready
 redex_first = refl
 
--- a head comes before its arguments: X = x ((z\ z) b)
-head_first : unified X (x · (Lam i0 · b)) ≡ clash
+-- a head comes before its arguments: X = x ((z\ z) Y)
+head_first : unified X (x · (Lam i0 · Y)) ≡ clash
 unfolding step ready
 head_first = refl
 

@@ -31,10 +31,19 @@ name_outside : solve (equal 1 X x ∷ []) ≡ clash
 unfolding step ready
 name_outside = refl
 
--- X = (z\ z), (X b) = a
-stuck_by_value : solve (equal 0 X (Lam i0) ∷ equal 0 (X · b) a ∷ []) ≡ redex_fault
+-- X = (z\ z), (X b) = a ; X = (z\ z), (X Y) = a
+reduced_by_value : solve (equal 0 X (Lam i0) ∷ equal 0 (X · b) a ∷ []) ≡ clash
+unfolding step ready
+reduced_by_value = refl
+
+stuck_by_value : solve (equal 0 X (Lam i0) ∷ equal 0 (X · Y) a ∷ []) ≡ redex_fault
 unfolding step ready
 stuck_by_value = refl
+
+-- X = (z\ f z z), Y = b, (X Y) = f b b: a stuck argument becomes a constant
+reduced_later : solve (equal 0 X (Lam (f · i0 · i0)) ∷ equal 0 Y b ∷ equal 0 (X · Y) (f · b · b) ∷ []) ≡ solved 10 (binds 1 b ∷ binds 0 (Lam (f · i0 · i0)) ∷ [])
+unfolding step ready
+reduced_later = refl
 
 -- X = a ; F a = b
 constant : solve (equal 0 X a ∷ []) ≡ solved 10 (binds 0 a ∷ [])

@@ -7,15 +7,15 @@ use Rattle.ref_terms.specs.unification.Rules.{step}
 use Rattle.ref_terms.proofs.examples.Setting.{◌·◌, X, Y, F, fresh, f, a, b, x, y, z, i0, i1, i2, equal, binds, solve, unified, solved, clash, redex_fault, pattern_fault}
 
 -- a stuck head on either side comes before everything else
-stuck_left : unified (Lam i0 · b) a ≡ redex_fault
+stuck_left : unified (Lam i0 · Y) a ≡ redex_fault
 unfolding step ready
 stuck_left = refl
 
-stuck_right : unified X (Lam i0 · b) ≡ redex_fault
+stuck_right : unified X (Lam i0 · Y) ≡ redex_fault
 unfolding step ready
 stuck_right = refl
 
-stuck_before_abstraction : unified (Lam (f · i0 · i0)) (Lam i0 · b · x) ≡ redex_fault
+stuck_before_abstraction : unified (Lam (f · i0 · i0)) (Lam i0 · Y · x) ≡ redex_fault
 unfolding step ready
 stuck_before_abstraction = refl
 
@@ -67,7 +67,7 @@ unfolding step ready
 strings_differ = refl
 
 -- the arguments come before the other equations
-arguments_first : solve (equal 0 (f · a) (f · b) ∷ equal 0 (Lam i0 · b) a ∷ []) ≡ clash
+arguments_first : solve (equal 0 (f · a) (f · b) ∷ equal 0 (Lam i0 · Y) a ∷ []) ≡ clash
 unfolding step ready
 arguments_first = refl
 

@@ -6,7 +6,7 @@ use Rattle.ref_terms.specs.terms.Ready.{ready}
 use Rattle.ref_terms.specs.terms.Apply.{apply, open_with}
 use Rattle.ref_terms.specs.terms.Instance.{inst}
 use Rattle.ref_terms.specs.unification.Closing.{close}
-use Rattle.ref_terms.proofs.examples.Setting.{◌·◌, Y, f, a, b, x, y, i0, i1, i2}
+use Rattle.ref_terms.proofs.examples.Setting.{◌·◌, X, Y, f, a, b, x, y, i0, i1, i2}
 
 -- an abstraction applied to a name: its bound name is replaced, and the index further out comes nearer
 applied_to_name : apply (Lam (f · i0 · i1)) x ≡ f · x · i0
@@ -23,18 +23,33 @@ applied_to_index : apply (Lam (f · i0)) i1 ≡ f · i1
 unfolding ready
 applied_to_index = refl
 
--- an abstraction applied to a constant, a variable, or a name with an argument gets stuck, also before further arguments
-stuck_at_constant : apply (Lam i0) a ≡ Lam i0 · a
+-- an abstraction applied to a constant, or to a name with an argument
+applied_to_constant : apply (Lam (f · i0 · i0)) a ≡ f · a · a
 unfolding ready
-stuck_at_constant = refl
+applied_to_constant = refl
+
+applied_to_application : apply (Lam (f · i0 · i0)) (x · y) ≡ f · (x · y) · (x · y)
+unfolding ready
+applied_to_application = refl
+
+-- an argument that becomes a head is only applied
+applied_at_head : apply (Lam (i0 · a)) (f · b) ≡ f · b · a
+unfolding ready
+applied_at_head = refl
+
+-- an abstraction applied to a variable, to one with an argument, or to an abstraction gets stuck, also before further arguments
 
 stuck_at_variable : apply (apply (Lam i0) Y) x ≡ Lam i0 · Y · x
 unfolding ready
 stuck_at_variable = refl
 
-stuck_at_application : apply (Lam i0) (x · y) ≡ Lam i0 · (x · y)
+stuck_at_application : apply (Lam i0) (Y · x) ≡ Lam i0 · (Y · x)
 unfolding ready
 stuck_at_application = refl
+
+stuck_at_abstraction : apply (Lam i0) (Lam (f · i0 · i0)) ≡ Lam i0 · Lam (f · i0 · i0)
+unfolding ready
+stuck_at_abstraction = refl
 
 -- a head with arguments gets one more
 one_more : apply (f · a) b ≡ f · a · b
@@ -55,12 +70,16 @@ not_last = refl
 contracted_twice : lam (lam (f · i1 · i0)) ≡ f
 contracted_twice = refl
 
--- a stuck redex whose argument becomes a name reduces; one whose argument becomes a constant stays
+-- a stuck redex whose argument becomes a name reduces; so does one whose argument becomes a constant, and one whose argument is headed by a variable stays
 reduces : inst 1 x (Lam (f · i0 · i0) · Y) ≡ f · x · x
 unfolding ready
 reduces = refl
 
-stays_stuck : inst 1 a (Lam (f · i0 · i0) · Y) ≡ Lam (f · i0 · i0) · a
+reduces_at_constant : inst 1 a (Lam (f · i0 · i0) · Y) ≡ f · a · a
+unfolding ready
+reduces_at_constant = refl
+
+stays_stuck : inst 1 (X · x) (Lam (f · i0 · i0) · Y) ≡ Lam (f · i0 · i0) · (X · x)
 unfolding ready
 stays_stuck = refl
 
@@ -77,10 +96,10 @@ instance_contracted : inst 1 (Lam (Lam (f · i1))) (Lam (Y · i0 · x)) ≡ f
 unfolding ready
 instance_contracted = refl
 
--- opening with a constant rebuilds: the redex gets stuck
-opened_with_constant : open_with (f · (Lam i0 · i0)) a ≡ f · (Lam i0 · a)
+-- opening with a variable rebuilds: the redex gets stuck
+opened_with_variable : open_with (f · (Lam i0 · i0)) Y ≡ f · (Lam i0 · Y)
 unfolding ready
-opened_with_constant = refl
+opened_with_variable = refl
 
 -- abstracting a name, with η
 name_abstracted : close 0 (f · x · y) ≡ Lam (f · i0 · y)

@@ -1,7 +1,7 @@
 -- Program: pred of o:term, o:term. of X T :- declare_constraint (of X T) [X]. constraint of { rule (G ?- of X T1) \ (D ?- of Y T2) > X ~ Y <=> (T1 = T2). }
 -- Query: (pi x\ of (H x) (A x)), (pi y\ of (H y) nat)
 -- Moves: 11
-use Rattle.std.proofs.Common.{◌≡◌, true, false, [], ◌∷◌, ◌++◌, Some, codes, refl}
+use Rattle.std.proofs.Common.{◌≡◌, true, false, [], ◌∷◌, ◌++◌, Some, None, codes, refl}
 use Rattle.std.specs.Fmt.{digits}
 use Rattle.ref_terms.specs.terms.Term.{Lam, App}
 use Rattle.ref_terms.specs.terms.Ready.{ready}
@@ -17,7 +17,7 @@ program = record {
   symbols = table ++ codes "of" ∷ codes "nat" ∷ codes "H" ∷ codes "A" ∷ [];
   preds = record { name = 25; inputs = false ∷ false ∷ [] } ∷ [];
   clauses = record { variables = 2; head = App (App (constant 25) (variable 0)) (variable 1); body = (Some (App (App (constant 17) (App (App (constant 25) (variable 0)) (variable 1))) (App (App (constant 19) (variable 0)) (constant 18)))) } ∷ [];
-  rules = record { names = 25 ∷ []; variables = 6; kept = record { context = (Some 0); goal = App (App (constant 25) (variable 1)) (variable 2) } ∷ []; removed = record { context = (Some 3); goal = App (App (constant 25) (variable 4)) (variable 5) } ∷ []; pairs = record { left_head = 0; left_arg = 0; right_head = 1; right_arg = 0 } ∷ []; tests = []; body = (Some (App (App (constant 9) (variable 2)) (variable 5))) } ∷ [];
+  rules = record { names = 25 ∷ []; variables = 6; kept = record { context = (Some 0); goal = App (App (constant 25) (variable 1)) (variable 2) } ∷ []; removed = record { context = (Some 3); goal = App (App (constant 25) (variable 4)) (variable 5) } ∷ []; pairs = record { left_head = 0; left_arg = 0; right_head = 1; right_arg = 0 } ∷ []; tests = []; body_context = None; body = (Some (App (App (constant 9) (variable 2)) (variable 5))) } ∷ [];
 }
 
 -- the query

@@ -1,7 +1,7 @@
 -- Program: pred of o:term, o:term. of X T :- declare_constraint (of X T) [X]. constraint of { rule \ (G ?- of X T) <=> (print G). }
 -- Query: pi x\ of x nat => of H T
 -- Moves: 8
-use Rattle.std.proofs.Common.{◌≡◌, true, false, [], ◌∷◌, ◌++◌, Some, codes, refl}
+use Rattle.std.proofs.Common.{◌≡◌, true, false, [], ◌∷◌, ◌++◌, Some, None, codes, refl}
 use Rattle.std.specs.Fmt.{digits}
 use Rattle.ref_terms.specs.terms.Term.{Lam, App}
 use Rattle.ref_terms.specs.terms.Ready.{ready}
@@ -17,7 +17,7 @@ program = record {
   symbols = table ++ codes "of" ∷ codes "nat" ∷ codes "H" ∷ codes "T" ∷ [];
   preds = record { name = 25; inputs = false ∷ false ∷ [] } ∷ [];
   clauses = record { variables = 2; head = App (App (constant 25) (variable 0)) (variable 1); body = (Some (App (App (constant 17) (App (App (constant 25) (variable 0)) (variable 1))) (App (App (constant 19) (variable 0)) (constant 18)))) } ∷ [];
-  rules = record { names = 25 ∷ []; variables = 3; kept = []; removed = record { context = (Some 0); goal = App (App (constant 25) (variable 1)) (variable 2) } ∷ []; pairs = []; tests = []; body = (Some (App (constant 15) (variable 0))) } ∷ [];
+  rules = record { names = 25 ∷ []; variables = 3; kept = []; removed = record { context = (Some 0); goal = App (App (constant 25) (variable 1)) (variable 2) } ∷ []; pairs = []; tests = []; body_context = None; body = (Some (App (constant 15) (variable 0))) } ∷ [];
 }
 
 -- the query

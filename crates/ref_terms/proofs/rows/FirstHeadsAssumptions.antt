@@ -1,7 +1,7 @@
 -- Program: pred h o:t. pred c o:t. c X :- declare_constraint (c X) [X]. constraint c h { rule \ (G ?- c X) (D ?- c Y) <=> (h Z, print Z). }
 -- Query: (h a => c X), (h b => c Y)
 -- Moves: 13
-use Rattle.std.proofs.Common.{◌≡◌, true, false, [], ◌∷◌, ◌++◌, Some, codes, refl}
+use Rattle.std.proofs.Common.{◌≡◌, true, false, [], ◌∷◌, ◌++◌, Some, None, codes, refl}
 use Rattle.std.specs.Fmt.{digits}
 use Rattle.ref_terms.specs.terms.Term.{App}
 use Rattle.ref_terms.specs.terms.Ready.{ready}
@@ -17,7 +17,7 @@ program = record {
   symbols = table ++ codes "h" ∷ codes "c" ∷ codes "a" ∷ codes "b" ∷ codes "X" ∷ codes "Y" ∷ [];
   preds = record { name = 25; inputs = false ∷ [] } ∷ record { name = 26; inputs = false ∷ [] } ∷ [];
   clauses = record { variables = 1; head = App (constant 26) (variable 0); body = (Some (App (App (constant 17) (App (constant 26) (variable 0))) (App (App (constant 19) (variable 0)) (constant 18)))) } ∷ [];
-  rules = record { names = 26 ∷ 25 ∷ []; variables = 5; kept = []; removed = record { context = (Some 0); goal = App (constant 26) (variable 1) } ∷ record { context = (Some 2); goal = App (constant 26) (variable 3) } ∷ []; pairs = []; tests = []; body = (Some (App (App (constant 3) (App (constant 25) (variable 4))) (App (constant 15) (variable 4)))) } ∷ [];
+  rules = record { names = 26 ∷ 25 ∷ []; variables = 5; kept = []; removed = record { context = (Some 0); goal = App (constant 26) (variable 1) } ∷ record { context = (Some 2); goal = App (constant 26) (variable 3) } ∷ []; pairs = []; tests = []; body_context = None; body = (Some (App (App (constant 3) (App (constant 25) (variable 4))) (App (constant 15) (variable 4)))) } ∷ [];
 }
 
 -- the query

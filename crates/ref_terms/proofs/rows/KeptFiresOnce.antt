@@ -17,7 +17,7 @@ program = record {
   symbols = table ++ codes "c" ∷ codes "fired" ∷ codes "X" ∷ codes "Y" ∷ [];
   preds = record { name = 25; inputs = false ∷ [] } ∷ [];
   clauses = record { variables = 1; head = App (constant 25) (variable 0); body = (Some (App (App (constant 17) (App (constant 25) (variable 0))) (App (App (constant 19) (variable 0)) (constant 18)))) } ∷ [];
-  rules = record { names = 25 ∷ []; variables = 1; kept = record { context = None; goal = App (constant 25) (variable 0) } ∷ []; removed = []; pairs = []; tests = []; body = (Some (App (constant 15) (constant 26))) } ∷ [];
+  rules = record { names = 25 ∷ []; variables = 1; kept = record { context = None; goal = App (constant 25) (variable 0) } ∷ []; removed = []; pairs = []; tests = []; body_context = None; body = (Some (App (constant 15) (constant 26))) } ∷ [];
 }
 
 -- the query

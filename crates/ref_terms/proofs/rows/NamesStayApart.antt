@@ -17,7 +17,7 @@ program = record {
   symbols = table ++ codes "of" ∷ codes "nat" ∷ codes "H" ∷ codes "A" ∷ [];
   preds = record { name = 25; inputs = false ∷ false ∷ [] } ∷ [];
   clauses = record { variables = 2; head = App (App (constant 25) (variable 0)) (variable 1); body = (Some (App (App (constant 17) (App (App (constant 25) (variable 0)) (variable 1))) (App (App (constant 19) (variable 0)) (constant 18)))) } ∷ [];
-  rules = record { names = 25 ∷ []; variables = 4; kept = record { context = None; goal = App (App (constant 25) (variable 0)) (variable 1) } ∷ []; removed = record { context = None; goal = App (App (constant 25) (variable 2)) (variable 3) } ∷ []; pairs = []; tests = (App (App (constant 10) (variable 0)) (variable 2)) ∷ []; body = (Some (App (App (constant 9) (variable 1)) (variable 3))) } ∷ [];
+  rules = record { names = 25 ∷ []; variables = 4; kept = record { context = None; goal = App (App (constant 25) (variable 0)) (variable 1) } ∷ []; removed = record { context = None; goal = App (App (constant 25) (variable 2)) (variable 3) } ∷ []; pairs = []; tests = (App (App (constant 10) (variable 0)) (variable 2)) ∷ []; body_context = None; body = (Some (App (App (constant 9) (variable 1)) (variable 3))) } ∷ [];
 }
 
 -- the query

@@ -1,5 +1,5 @@
 -- Program: empty
--- Query: X = (a\ a), (X b) = c
+-- Query: X = (a\ f a a), X (b\ g b b) = c
 -- Moves: 3
 use Rattle.std.proofs.Common.{◌≡◌, true, [], ◌∷◌, ◌++◌, codes, refl}
 use Rattle.std.specs.Fmt.{digits}
@@ -14,7 +14,7 @@ use Rattle.ref_terms.proofs.Samples.{constant, variable, bound, table, lines}
 -- the program
 abbrev program : Program
 program = record {
-  symbols = table ++ codes "b" ∷ codes "c" ∷ codes "X" ∷ [];
+  symbols = table ++ codes "f" ∷ codes "g" ∷ codes "c" ∷ codes "X" ∷ [];
   preds = [];
   clauses = [];
   rules = [];
@@ -22,7 +22,7 @@ program = record {
 
 -- the query
 abbrev query : Query
-query = record { variables = record { name = 27; shown = true } ∷ []; goal = App (App (constant 3) (App (App (constant 9) (variable 0)) (Lam (bound 0)))) (App (App (constant 9) (App (variable 0) (constant 25))) (constant 26)) }
+query = record { variables = record { name = 28; shown = true } ∷ []; goal = App (App (constant 3) (App (App (constant 9) (variable 0)) (Lam (App (App (constant 25) (bound 0)) (bound 0))))) (App (App (constant 9) (App (variable 0) (Lam (App (App (constant 26) (bound 0)) (bound 0))))) (constant 27)) }
 
 -- what the run writes
 pub row : output program query 3 0 ≡ lines (codes "fault: redex" ∷ [])

@@ -20,7 +20,7 @@ abbrev pub clauses_vars : (ℕ → ℕ) → Judged (List Assumption) → Judged 
 clauses_vars p j = judged_map (map (assumption_vars p)) j
 
 module _ (p : ℕ → ℕ) where
-  append-vars : (a b : Judged (List Assumption)) → judged_append (clauses_vars p a) (clauses_vars p b) ≡ clauses_vars p (judged_append a b)
+  pub append-vars : (a b : Judged (List Assumption)) → judged_append (clauses_vars p a) (clauses_vars p b) ≡ clauses_vars p (judged_append a b)
   append-vars (Good xs) (Good ys) = ap Good (sym (map-append (assumption_vars p) xs ys))
   append-vars (Good xs) (Bad e) = refl
   append-vars (Bad e) b = refl

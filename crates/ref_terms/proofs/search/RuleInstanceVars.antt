@@ -1,25 +1,28 @@
 -- Rule instances and their firing, where variables are renamed.
-use Rattle.std.proofs.Common.{◌≡◌, ℕ, ◌+◌, ◌≤◌, Bool, true, false, cond, ◌&&◌, not, nat_eq, List, [], ◌∷◌, map, refl, sym, ap, ap₂, ◌∙◌, subst, Option, Some, None, unwrap_or, arith}
+use Rattle.std.proofs.Common.{◌≡◌, ℕ, ◌+◌, ◌≤◌, Bool, true, false, cond, ◌&&◌, not, nat_eq, List, [], ◌∷◌, map, refl, sym, ap, ap₂, ◌∙◌, subst, Option, Some, None, option_map, unwrap_or, arith}
 use Rattle.std.specs.List.{list_any, list_all}
-use Rattle.ref_terms.specs.terms.Term.{Term}
+use Rattle.ref_terms.specs.terms.Term.{Term, At, Var}
 use Rattle.ref_terms.specs.terms.Renamed.{vars}
 use Rattle.ref_terms.specs.unification.Problem.{Equation, Binding, Problem, Answer, Solved, Clashed, Faulted as UnifyFaulted}
 use Rattle.ref_terms.specs.unification.Renamed.{binding_vars, renamed_answer}
 use Rattle.ref_terms.specs.unification.Unification.{Unification}
 use Rattle.ref_terms.specs.search.Reserved.{true_term}
-use Rattle.ref_terms.specs.search.Fault.{Judged, Good, Bad, judged_map}
+use Rattle.ref_terms.specs.search.Fault.{Judged, Good, Bad, judged_map, judged_append}
 use Rattle.ref_terms.specs.search.Program.{Rule}
-use Rattle.ref_terms.specs.search.Assumption.{Assumption}
+use Rattle.ref_terms.specs.search.Assumption.{Assumption, assumptions_of}
+use Rattle.ref_terms.specs.search.Lists.{items_of}
 use Rattle.ref_terms.specs.search.Instance.{instance}
 use Rattle.ref_terms.specs.search.Branch.{Constraint, Fired, Branch, bound}
 use Rattle.ref_terms.specs.search.Joint.{Joint, joint}
 use Rattle.ref_terms.specs.search.RuleTest.{holds}
 use Rattle.ref_terms.specs.search.RuleMatch.{heads_of, fit_heads, match_equations}
-use Rattle.ref_terms.specs.search.RuleInstance.{Firing, is_fired, body_assumptions, matched_value, firing, tested, after_matching, matched_at, admitted, rule_instance, after_firing}
+use Rattle.ref_terms.specs.search.RuleInstance.{Firing, is_fired, body_assumptions, clauses_of_items, clauses_of_list, matched_value, firing, tested, after_matching, matched_at, admitted, rule_instance, after_firing}
 use Rattle.ref_terms.specs.search.Renamed.{assumption_vars, constraint_vars, branch_vars}
 use Rattle.ref_terms.specs.search.Alike.{IsRenamingAt}
 use Rattle.ref_terms.proofs.search.Fair.{IsFair, AnswerGrown, grown-weaker, Outcome, in-order-later}
 use Rattle.ref_terms.proofs.search.ListVars.{filter-vars, map-after}
+use Rattle.ref_terms.proofs.search.TermVars.{items-vars}
+use Rattle.ref_terms.proofs.search.AssumptionVars.{clauses_vars, append-vars, assumptions-vars}
 use Rattle.ref_terms.proofs.search.InstanceVars.{instance-vars, from-next}
 use Rattle.ref_terms.proofs.search.BranchVars.{bound-vars}
 use Rattle.ref_terms.proofs.search.RuleTestVars.{holds-vars}
@@ -38,9 +41,19 @@ all-same : {A : Type 0} (f g : A → Bool) → ((a : A) → f a ≡ g a) → (xs
 all-same f g e [] = refl
 all-same f g e (x ∷ xs) = ap₂ (λ (b c : Bool). b && c) (e x) (all-same f g e xs)
 
-body-assumptions-vars : (p : ℕ → ℕ) (r : Rule) (names : ℕ) (f g : Term → Term) (cs : List Constraint) → body_assumptions r names g (map (constraint_vars p) cs) ≡ judged_map (map (assumption_vars p)) (body_assumptions r names f cs)
-body-assumptions-vars p r names f g [] = refl
-body-assumptions-vars p r names f g (c ∷ cs) = refl
+items-assumptions-vars : (p : ℕ → ℕ) (names : ℕ) (ts : List Term) → clauses_of_items names (map (vars p) ts) ≡ clauses_vars p (clauses_of_items names ts)
+items-assumptions-vars p names [] = refl
+items-assumptions-vars p names (t ∷ ts) = ap₂ judged_append (assumptions-vars p names t) (items-assumptions-vars p names ts) ∙ append-vars p (assumptions_of names t) (clauses_of_items names ts)
+
+list-assumptions-vars : (p : ℕ → ℕ) (names : ℕ) (o : Option (List Term)) → clauses_of_list names (option_map (map (vars p)) o) ≡ clauses_vars p (clauses_of_list names o)
+list-assumptions-vars p names None = refl
+list-assumptions-vars p names (Some ts) = items-assumptions-vars p names ts
+
+body-assumptions-vars : (p : ℕ → ℕ) (o : Option ℕ) (names : ℕ) (f g : Term → Term) → ((t : Term) → g t ≡ vars p (f t)) → (cs : List Constraint)
+    → body_assumptions o names g (map (constraint_vars p) cs) ≡ judged_map (map (assumption_vars p)) (body_assumptions o names f cs)
+body-assumptions-vars p None names f g e [] = refl
+body-assumptions-vars p None names f g e (c ∷ cs) = refl
+body-assumptions-vars p (Some v) names f g e cs = ap (clauses_of_list names) (ap items_of (e (At (Var v))) ∙ items-vars p (f (At (Var v)))) ∙ list-assumptions-vars p names (items_of (f (At (Var v))))
 
 module _ (p : ℕ → ℕ) (lo : ℕ) (good : IsRenamingAt lo p) (r : Rule) (names : ℕ) (fired : Fired) (cs : List Constraint) where
   firing-vars : (next : ℕ) → lo ≤ next → (f g : Term → Term) → ((t : Term) → g t ≡ vars p (f t)) → (j : Judged (List Assumption))
@@ -56,8 +69,8 @@ module _ (p : ℕ → ℕ) (lo : ℕ) (good : IsRenamingAt lo p) (r : Rule) (nam
   tested-vars next low f g e =
       let tests : list_all (λ t. holds (g t)) r.tests ≡ list_all (λ t. holds (f t)) r.tests = all-same (λ t. holds (g t)) (λ t. holds (f t)) (λ t. ap holds (e t) ∙ holds-vars p good.good.one_to_one (f t)) r.tests in
       subst (λ (z : Option (Judged Firing)). Outcome (RenamedFiring p lo) (tested r names next fired cs f) z)
-      (sym (ap₂ (λ (b : Bool) (j : Judged (List Assumption)). cond b (Some (judged_map (firing r names (p next) fired g) j)) None) tests (body-assumptions-vars p r names f g cs)))
-      (cond-outcome (RenamedFiring p lo) (list_all (λ t. holds (f t)) r.tests) _ _ (firing-vars next low f g e (body_assumptions r names f cs)))
+      (sym (ap₂ (λ (b : Bool) (j : Judged (List Assumption)). cond b (Some (judged_map (firing r names (p next) fired g) j)) None) tests (body-assumptions-vars p r.body_context names f g e cs)))
+      (cond-outcome (RenamedFiring p lo) (list_all (λ t. holds (f t)) r.tests) _ _ (firing-vars next low f g e (body_assumptions r.body_context names f cs)))
 
   value-vars : (bs : List Binding) (t : Term) → matched_value names (p lo) (map (binding_vars p) bs) t ≡ vars p (matched_value names lo bs t)
   value-vars bs t = ap (bound (map (binding_vars p) bs)) (sym (instance-vars p lo good.in_order names t)) ∙ sym (bound-vars p lo (p lo) good.good bs (instance names lo t))

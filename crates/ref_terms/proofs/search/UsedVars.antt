@@ -12,14 +12,14 @@ use Rattle.ref_terms.specs.search.Used.{Every, UsesBelow, AssumptionBelow, GoalB
 
 module _ (next n : ℕ) (q : ℕ → ℕ) where
   -- the renaming below the next variable, and in order from n on above it
-  extended : ℕ → ℕ
+  pub extended : ℕ → ℕ
   extended v = cond (nat_lt v next) (q v) (n + (v - next))
 
-  extended-low : (v : ℕ) → v < next → extended v ≡ q v
+  pub extended-low : (v : ℕ) → v < next → extended v ≡ q v
   unfolding extended
   extended-low v low = rw (lt-ltb v next low) refl
 
-  extended-high : (v : ℕ) → next ≤ v → extended v ≡ n + (v - next)
+  pub extended-high : (v : ℕ) → next ≤ v → extended v ≡ n + (v - next)
   unfolding extended
   extended-high v high = rw (le-ltb v next high) refl
 
@@ -53,7 +53,7 @@ module _ (next n : ℕ) (q : ℕ → ℕ) where
             let d = extended-high b v in
             omega arith
 
-    one-to-one : (a b : ℕ) → nat_eq (extended a) (extended b) ≡ nat_eq a b
+    pub one-to-one : (a b : ℕ) → nat_eq (extended a) (extended b) ≡ nat_eq a b
     one-to-one a b = go (nat_eq (extended a) (extended b)) refl (nat_eq a b) refl
       where
         go : (x : Bool) → nat_eq (extended a) (extended b) ≡ x → (y : Bool) → nat_eq a b ≡ y → nat_eq (extended a) (extended b) ≡ nat_eq a b
@@ -62,7 +62,7 @@ module _ (next n : ℕ) (q : ℕ → ℕ) where
         go true e false f = absurd (eqb-false a b f (injective a b (eqb-true (extended a) (extended b) e)))
         go false e true f = absurd (eqb-false (extended a) (extended b) e (ap extended (eqb-true a b f)))
 
-    older : (v : ℕ) → nat_lt (extended v) (extended next) ≡ nat_lt v next
+    pub older : (v : ℕ) → nat_lt (extended v) (extended next) ≡ nat_lt v next
     older v = go (nat_lt v next) refl
       where
         top : extended next ≡ n
@@ -81,7 +81,7 @@ module _ (next n : ℕ) (q : ℕ → ℕ) where
             let d = top in
             le-ltb (extended v) (extended next) (omega arith) ∙ sym e
 
-    in-order : (k : ℕ) → next ≤ k → extended (suc k) ≡ suc (extended k)
+    pub in-order : (k : ℕ) → next ≤ k → extended (suc k) ≡ suc (extended k)
     in-order k high = let c = extended-high k high in let d = extended-high (suc k) (omega arith) in omega arith
 
   -- where all variables are below the next one, only their renaming is seen
@@ -111,7 +111,7 @@ module _ (next n : ℕ) (q : ℕ → ℕ) where
   term-same (At h) w = ap At (head-same h w)
   term-same (App g a) w = ap₂ App (term-same g (λ v high. or-left (occurs v g) (occurs v a) (w v high))) (term-same a (λ v high. or-right (occurs v g) (occurs v a) (w v high)))
 
-  each-same : {A B : Type 0} (P : A → Type 0) (f g : A → B) → ((a : A) → P a → f a ≡ g a) → (xs : List A) → Every P xs → map f xs ≡ map g xs
+  pub each-same : {A B : Type 0} (P : A → Type 0) (f g : A → B) → ((a : A) → P a → f a ≡ g a) → (xs : List A) → Every P xs → map f xs ≡ map g xs
   each-same P f g e [] w = refl
   each-same P f g e (x ∷ xs) w = ap₂ (λ (y : _) (ys : List _). y ∷ ys) (e x w.0) (each-same P f g e xs w.1)
 
@@ -127,7 +127,7 @@ module _ (next n : ℕ) (q : ℕ → ℕ) where
   goal-same : (g : Goal) → GoalBelow next g → goal_vars extended g ≡ goal_vars q g
   goal-same g w = λ i. record g { assumptions = assumptions-same g.assumptions w.0 i; term = term-same g.term w.1 i }
 
-  constraint-same : (c : Constraint) → ConstraintBelow next c → constraint_vars extended c ≡ constraint_vars q c
+  pub constraint-same : (c : Constraint) → ConstraintBelow next c → constraint_vars extended c ≡ constraint_vars q c
   constraint-same c w = λ i. record c { assumptions = assumptions-same c.assumptions w.0 i; term = term-same c.term w.1 i; keys = terms-same c.keys w.2 i }
 
 -- a branch with its variables in use renamed one to one, and any next variable above them

@@ -244,7 +244,7 @@ apply_stuck (Lam b) a h = rw h refl
 apply_stuck (At k) a h = refl
 apply_stuck (App f b) a h = refl
 
-fill-renames : (p : ℕ → ℕ) (t : Term) → IsBuilt t → fill (λ h. At (vars_head p h)) t ≡ vars p t
+pub fill-renames : (p : ℕ → ℕ) (t : Term) → IsBuilt t → fill (λ h. At (vars_head p h)) t ≡ vars p t
 fill-renames p (Lam b) w = ap lam (ap (λ r. fill r b) (fun_ext (renames_below p)) ∙ fill-renames p b w.0) ∙ sym (lam-vars p b) ∙ ap (λ o. vars p (lam_of o b)) w.1
 fill-renames p (At h) w = refl
 fill-renames p (App f a) w = ap₂ apply (fill-renames p f w.0) (fill-renames p a w.1) ∙ sym (apply-vars p f a) ∙ ap (vars p) (apply_stuck f a w.2)

@@ -35,7 +35,7 @@ or_right : (a b : Bool) → (a || b) ≡ false → b ≡ false
 or_right false b e = e
 or_right true b e = absurd (let k : true ≡ false = e in cc)
 
-AgreeBut : ℕ → (Head → Term) → (Head → Term) → Type 0
+unfoldable pub AgreeBut : ℕ → (Head → Term) → (Head → Term) → Type 0
 AgreeBut v r q = (h : Head) → is_variable v h ≡ false → r h ≡ q h
 
 below-agree : (v : ℕ) (r q : Head → Term) → AgreeBut v r q → AgreeBut v (below r) (below q)
@@ -48,7 +48,7 @@ below-agree v r q e (Str c) k = ap shift (e (Str c) refl)
 below-agree v r q e (Name c) k = ap shift (e (Name c) refl)
 below-agree v r q e (Var c) k = ap shift (e (Var c) k)
 
-fill-agree : (v : ℕ) (r q : Head → Term) → AgreeBut v r q → (t : Term) → occurs v t ≡ false → fill r t ≡ fill q t
+pub fill-agree : (v : ℕ) (r q : Head → Term) → AgreeBut v r q → (t : Term) → occurs v t ≡ false → fill r t ≡ fill q t
 unfolding AgreeBut
 fill-agree v r q e (Lam b) n = ap lam (fill-agree v (below r) (below q) (below-agree v r q e) b n)
 fill-agree v r q e (At h) n = e h n

@@ -28,6 +28,7 @@ pub record Rule : Type 0 where
   pub removed : List RuleHead
   pub pairs : List Pair
   pub tests : List Term
+  pub body_context : Option ℕ
   pub body : Option Term
 
 -- a checked program: the texts of the symbols by their numbers, and the rest in text order

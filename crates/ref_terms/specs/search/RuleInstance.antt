@@ -1,12 +1,14 @@
 -- A rule instance, and the branch after it fires.
 use Rattle.std.specs.Prelude.{ℕ, ◌+◌, Bool, true, false, cond, ◌&&◌, not, nat_eq, List, [], ◌∷◌, ◌++◌, map, filter, Option, Some, None, unwrap_or}
 use Rattle.std.specs.List.{list_any, list_all}
-use Rattle.ref_terms.specs.terms.Term.{Term}
+use Rattle.ref_terms.specs.terms.Term.{Term, At, Var}
 use Rattle.ref_terms.specs.unification.Problem.{Binding, Answer, Solved, Clashed, Faulted as UnifyFaulted}
 use Rattle.ref_terms.specs.search.Reserved.{true_term}
-use Rattle.ref_terms.specs.search.Fault.{of_unification, Judged, Good, Bad, judged_map}
+use Rattle.ref_terms.specs.search.Fault.{of_unification, Judged, Good, Bad, judged_map, judged_append}
 use Rattle.ref_terms.specs.search.Program.{Rule}
-use Rattle.ref_terms.specs.search.Assumption.{Assumption}
+use Rattle.ref_terms.specs.search.Assumption.{Assumption, assumptions_of}
+use Rattle.ref_terms.specs.search.Lists.{items_of}
+use Rattle.ref_terms.specs.declared.fault.Fault.TheVariants.{NotGoal}
 use Rattle.ref_terms.specs.search.Instance.{instance}
 use Rattle.ref_terms.specs.search.Branch.{Constraint, Fired, Branch, bound}
 use Rattle.ref_terms.specs.search.Joint.{Joint, joint}
@@ -33,10 +35,25 @@ numbers_eq _ _ = false
 abbrev pub is_fired : Fired → List Fired → Bool
 is_fired f fs = list_any (λ g. nat_eq f.rule g.rule && numbers_eq f.constraints g.constraints) fs
 
--- the assumptions of the body, which are those of the first head; `value` is what a term of the rule stands for
-abbrev pub body_assumptions : Rule → (names : ℕ) → (Term → Term) → List Constraint → Judged (List Assumption)
-body_assumptions r names value [] = Good []
-body_assumptions r names value (c ∷ cs) = Good c.assumptions
+-- the assumptions of the first head
+abbrev pub first_assumptions : List Constraint → List Assumption
+first_assumptions [] = []
+first_assumptions (c ∷ cs) = c.assumptions
+
+-- the clauses of terms from left to right, or the first fault
+abbrev pub clauses_of_items : (names : ℕ) → List Term → Judged (List Assumption)
+clauses_of_items names [] = Good []
+clauses_of_items names (t ∷ ts) = judged_append (assumptions_of names t) (clauses_of_items names ts)
+
+-- the clauses of a list; what is no list is a fault
+abbrev pub clauses_of_list : (names : ℕ) → Option (List Term) → Judged (List Assumption)
+clauses_of_list names None = Bad NotGoal
+clauses_of_list names (Some ts) = clauses_of_items names ts
+
+-- the assumptions of the body: the clauses of its context, or without one those of the first head; `value` is what a term of the rule stands for
+abbrev pub body_assumptions : Option ℕ → (names : ℕ) → (Term → Term) → List Constraint → Judged (List Assumption)
+body_assumptions None names value cs = Good (first_assumptions cs)
+body_assumptions (Some v) names value cs = clauses_of_list names (items_of (value (At (Var v))))
 
 -- the constraints after the kept heads
 abbrev pub without_kept : {A B : Type 0} → List A → List B → List B
@@ -62,7 +79,7 @@ firing r names next f value hs = record {
 -- after matching: none where a test doesn't hold
 abbrev pub tested : Rule → (names next : ℕ) → Fired → List Constraint → (Term → Term) → Option (Judged Firing)
 tested r names next f cs value = cond (list_all (λ t. holds (value t)) r.tests)
-    (Some (judged_map (firing r names next f value) (body_assumptions r names value cs)))
+    (Some (judged_map (firing r names next f value) (body_assumptions r.body_context names value cs)))
     None
 
 -- what follows from the answer of matching: a clash refuses the instance

@@ -1,14 +1,15 @@
--- The arguments that an abstraction takes at once.
+-- The arguments that an abstraction takes.
 use Rattle.std.specs.Prelude.{Bool, true, false}
-use Rattle.ref_terms.specs.terms.Term.{Head, Name, Bound, Term, At}
+use Rattle.ref_terms.specs.terms.Term.{Head, Con, Var, Term, Lam, At, App}
 
--- a name or a bound index
-abbrev pub ready_head : Head → Bool
-ready_head (Name n) = true
-ready_head (Bound n) = true
-ready_head _ = false
+-- a constant, an integer, a string, a name or a bound index
+abbrev pub rigid_head : Head → Bool
+rigid_head (Var v) = false
+rigid_head (Con c) = true
+rigid_head _ = true
 
--- such a head without arguments; only the laws on ready terms look into this
+-- a term with such a head at its front; only the laws on ready terms look into this
 unfoldable pub ready : Term → Bool
-ready (At h) = ready_head h
-ready _ = false
+ready (Lam b) = false
+ready (At h) = rigid_head h
+ready (App f a) = ready f

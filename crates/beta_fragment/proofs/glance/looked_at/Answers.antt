@@ -40,4 +40,4 @@ loop-v-init c = record {
 pub returns : goal.returns
 returns c = λ s v.
     let before = c.loop-v.invariant.valid s v in
-    readiness-before (read c.args.heap.now c.args.t.index names) (read c.args.heap.now c.loop-v.node.index names) before.0 s c.looked_at_end.result c.loop-v.invariant.same before.1 (c.looked_at_end.ensures before.0 before.2)
+    readiness-before c.args.heap.now (read c.args.heap.now c.args.t.index names) (read c.args.heap.now c.loop-v.node.index names) before.0 s c.looked_at_end.result c.loop-v.invariant.same before.1 (c.looked_at_end.ensures before.0 before.2)

@@ -3,8 +3,9 @@ use Rattle.std.specs.Prelude.{MatchOption}
 use Rattle.level_terms.specs.declared.node.TermId.{TermId}
 use Rattle.level_terms.proofs.GrowthLemmas.{grows-refl}
 use Rattle.beta_fragment.specs.Turn.{IsFirst}
-use Rattle.beta_fragment.specs.declared.glance.Readiness.TheVariants.{Level}
-use Rattle.beta_fragment.proofs.TurnLemmas.{lam-turn, pop-split}
+use Rattle.beta_fragment.specs.declared.glance.Readiness.TheVariants.{Level, Ready}
+use Rattle.beta_fragment.proofs.TurnLemmas.{lam-turn, pop-split, pop-ready}
+use Rattle.beta_fragment.proofs.StandLemmas.{take-turn}
 use Rattle.beta_fragment.proofs.head.turn_lam.Goals as goal
 
 pub returns-in_err-push-in-Level-clause-grows : goal.returns-in_err-push-in-Level-clause-grows
@@ -27,3 +28,18 @@ returns-in_ok-push-in-Level-clause-turn c =
     first in
     lam-turn c.args.heap.now c.args.depth c.args.head.index c.args.made c.args.body c.in-Level.k parts.0 c.args.levels.now c.push.new.self c.args.fixed.now c.min.result c.args.args.now.items c.pop.new.self.items c.is_sound.ensures c.requires.here c.requires.valid c.requires.moves parts.1 parts.2 parts.3
     (c.in_ok-push-in-Level.ensures ∙ ap (λ (ls : List ℕ). ls ++ c.in-Level.k ∷ []) c.truncate.ensures) c.min.ensures
+
+pub returns-in_err-push-in-Ready-clause-grows : goal.returns-in_err-push-in-Ready-clause-grows
+returns-in_err-push-in-Ready-clause-grows c = grows-refl c.args.heap.now []
+
+pub returns-in_ok-push-in-Ready-clause-grows : goal.returns-in_ok-push-in-Ready-clause-grows
+returns-in_ok-push-in-Ready-clause-grows c = grows-refl c.args.heap.now []
+
+pub returns-in_ok-push-in-Ready-clause-turn : goal.returns-in_ok-push-in-Ready-clause-turn
+returns-in_ok-push-in-Ready-clause-turn c =
+    let first = subst (λ (ts : List TermId). IsFirst c.args.heap.now c.args.depth (reverse ts) (Ready c.in-Ready.arg)) c.as_slice.ensures.value c.in-Ready.ensures in
+    let parts = pop-ready c.args.heap.now c.args.depth c.in-Ready.arg c.args.args.now.items c.pop-in-Ready.new.self.items c.pop-in-Ready.result c.pop-in-Ready.ensures.items
+    (λ e. let z = subst (λ o. MatchOption o ((vec_len c.args.args.now ≡ 0) × (vec_len c.pop-in-Ready.new.self ≡ 0)) (λ _. vec_len c.pop-in-Ready.new.self + 1 ≡ vec_len c.args.args.now)) e c.pop-in-Ready.ensures.cases in omega (arith, z, c.args.args.now.ok))
+    first in
+    take-turn c.args.heap.now c.args.depth c.args.head.index c.args.made c.args.body parts.0 c.in-Ready.arg c.args.levels.now c.push-in-Ready.new.self c.args.fixed.now c.min-in-Ready.result c.args.args.now.items c.pop-in-Ready.new.self.items c.is_sound.ensures c.requires.here c.requires.valid c.requires.moves c.requires.args parts.1 parts.2 parts.3 parts.4
+    (c.in_ok-push-in-Ready.ensures ∙ ap (λ (ls : List ℕ). ls ++ c.args.depth ∷ []) c.truncate-in-Ready.ensures) c.min-in-Ready.ensures

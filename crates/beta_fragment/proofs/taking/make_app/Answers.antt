@@ -21,8 +21,8 @@ returns-clause-done c =
     (done-there (terms_of c.args.cells.now) (terms_of c.add.new.self) (reverse c.pop-2.new.self.items) gains first.1.1)
 
 pub returns-clause-steps : goal.returns-clause-steps
-returns-clause-steps c = λ put work.
+returns-clause-steps c = λ work.
     let whole = term.App (term_at (terms_of c.args.cells.now) c.in-Some-Some.f) (term_at (terms_of c.args.cells.now) c.in-Some-Some.a) in
     let kept = added-kept (terms_of c.args.cells.now) (terms_of c.add.new.self) whole c.in_ok-r-in-Some-Some.r c.in_ok-r-in-Some-Some.ensures.number c.in_ok-r-in-Some-Some.ensures.added in
     let gains = added-gains (terms_of c.args.cells.now) (terms_of c.add.new.self) whole c.in_ok-r-in-Some-Some.ensures.added in
-    makes-app put (terms_of c.args.cells.now) (terms_of c.add.new.self) work c.args.done.now.items c.pop.new.self.items c.pop-2.new.self.items c.push.new.self.items c.in-Some-Some.f c.in-Some-Some.a c.in_ok-r-in-Some-Some.r gains c.requires.done kept c.in-Some-Some.ensures.items c.in-Some-Some.ensures'.items c.in_ok-push-in-Some-Some.ensures.items
+    makes-app (terms_of c.args.cells.now) (terms_of c.add.new.self) work c.args.done.now.items c.pop.new.self.items c.pop-2.new.self.items c.push.new.self.items c.in-Some-Some.f c.in-Some-Some.a c.in_ok-r-in-Some-Some.r gains c.requires.done kept c.in-Some-Some.ensures.items c.in-Some-Some.ensures'.items c.in_ok-push-in-Some-Some.ensures.items

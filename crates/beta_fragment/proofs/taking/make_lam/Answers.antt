@@ -19,8 +19,8 @@ returns-clause-done c =
     (done-there (terms_of c.args.cells.now) (terms_of c.add.new.self) (reverse c.pop.new.self.items) gains first.1)
 
 pub returns-clause-steps : goal.returns-clause-steps
-returns-clause-steps c = λ put work.
+returns-clause-steps c = λ work.
     let body = term.Lam (term_at (terms_of c.args.cells.now) c.in-Some.body) in
     let kept = added-kept (terms_of c.args.cells.now) (terms_of c.add.new.self) body c.in_ok-r-in-Some.r c.in_ok-r-in-Some.ensures.number c.in_ok-r-in-Some.ensures.added in
     let gains = added-gains (terms_of c.args.cells.now) (terms_of c.add.new.self) body c.in_ok-r-in-Some.ensures.added in
-    makes-lam put (terms_of c.args.cells.now) (terms_of c.add.new.self) work c.args.done.now.items c.pop.new.self.items c.push.new.self.items c.in-Some.body c.in_ok-r-in-Some.r gains c.requires.done kept c.in-Some.ensures.items c.in_ok-push-in-Some.ensures.items
+    makes-lam (terms_of c.args.cells.now) (terms_of c.add.new.self) work c.args.done.now.items c.pop.new.self.items c.push.new.self.items c.in-Some.body c.in_ok-r-in-Some.r gains c.requires.done kept c.in-Some.ensures.items c.in_ok-push-in-Some.ensures.items

@@ -1,11 +1,11 @@
 use Rattle.std.proofs.Common.{length, map, reverse}
 use Rattle.beta_fragment.specs.Cells.{terms_of, term_at, Gains}
-use Rattle.beta_fragment.specs.Taking.{Comes, replaced, images, AllThere, work_size}
+use Rattle.beta_fragment.specs.Taking.{Comes, replaced, outside, AllThere, work_size}
 use Rattle.beta_fragment.proofs.taking.taken.Given as goal
 
 abbrev pub invariant-loop-task : goal.invariant-loop-task
 invariant-loop-task l = record {
-  comes : Comes l.put (terms_of l.fn.cells) (reverse l.work.items) (map (term_at (terms_of l.cells)) (reverse l.done.items)) (replaced (images l.put 0) (term_at (terms_of l.fn.cells) l.t));
+  comes : Comes (terms_of l.fn.cells) (reverse l.work.items) (map (term_at (terms_of l.cells)) (reverse l.done.items)) (replaced (outside (terms_of l.fn.cells) l.fn.put) (term_at (terms_of l.fn.cells) l.t));
   there : AllThere (length (terms_of l.cells)) (reverse l.done.items);
   gains : Gains (terms_of l.fn.cells) (terms_of l.cells);
 }

@@ -1,33 +1,35 @@
-use Rattle.std.proofs.Common.{Some, ap, sym, ◌∙◌, reverse, subst}
-use Rattle.beta_fragment.specs.Cells.{terms_of, cell_term}
-use Rattle.beta_fragment.specs.Taking.{IsImage, images, replaced}
-use Rattle.beta_fragment.proofs.KeptLemmas.{added-kept, added-gains}
-use Rattle.beta_fragment.proofs.TakingLaws.{leaf-at}
-use Rattle.beta_fragment.proofs.TakingSteps.{pushed-there, done-there, kept-steps, steps-none}
+use Rattle.std.proofs.Common.{◌≡◌, length, reverse, Some, sym, ap, ◌∙◌, subst}
+use Rattle.ref_terms.specs.terms.Term as term
+use Rattle.ref_terms.specs.terms.Term.{Term}
+use Rattle.beta_fragment.specs.Cells.{terms_of, term_at}
+use Rattle.beta_fragment.specs.Taking.{IsImage, PartThere, IsHeadTerm, images, replaced}
+use Rattle.beta_fragment.proofs.TakingSteps.{steps-none}
 use Rattle.beta_fragment.proofs.taking.visit_index.Goals as goal
 
-pub returns-in_err-push-in-Some-clause-gains : goal.returns-in_err-push-in-Some-clause-gains
-returns-in_err-push-in-Some-clause-gains c = added-gains (terms_of c.args.cells.now) (terms_of c.add.new.self) (cell_term (terms_of c.args.cells.now) c.in-Some.cell) c.in_ok-r-in-Some.ensures.added
+pub visit_other_index-requires-clause-becomes : goal.visit_other_index-requires-clause-becomes
+visit_other_index-requires-clause-becomes c =
+    let image = subst (IsImage (terms_of c.args.cells.now) c.args.put (images (terms_of c.args.cells.now) c.args.put c.args.under c.args.i)) c.in-Index.is (c.in_ok-j.ensures (terms_of c.args.cells.now)) in
+    ap (replaced (images (terms_of c.args.cells.now) c.args.put c.args.under)) c.requires.here ∙ image
 
-pub returns-in_ok-push-in-Some-clause-gains : goal.returns-in_ok-push-in-Some-clause-gains
-returns-in_ok-push-in-Some-clause-gains c = added-gains (terms_of c.args.cells.now) (terms_of c.add.new.self) (cell_term (terms_of c.args.cells.now) c.in-Some.cell) c.in_ok-r-in-Some.ensures.added
+pub visit_part-requires-clause-there : goal.visit_part-requires-clause-there
+visit_part-requires-clause-there c =
+    let image = subst (IsImage (terms_of c.args.cells.now) c.args.put (images (terms_of c.args.cells.now) c.args.put c.args.under c.args.i)) c.in-Other.is (c.in_ok-j.ensures (terms_of c.args.cells.now)) in
+    subst (PartThere (length (terms_of c.args.cells.now))) image.0 c.requires.put
 
-pub returns-in_ok-push-in-Some-clause-done : goal.returns-in_ok-push-in-Some-clause-done
-returns-in_ok-push-in-Some-clause-done c =
-    let kept = added-kept (terms_of c.args.cells.now) (terms_of c.add.new.self) (cell_term (terms_of c.args.cells.now) c.in-Some.cell) c.in_ok-r-in-Some.r c.in_ok-r-in-Some.ensures.number c.in_ok-r-in-Some.ensures.added in
-    let gains = added-gains (terms_of c.args.cells.now) (terms_of c.add.new.self) (cell_term (terms_of c.args.cells.now) c.in-Some.cell) c.in_ok-r-in-Some.ensures.added in
-    pushed-there (terms_of c.add.new.self) c.args.done.now.items c.push.new.self.items c.in_ok-r-in-Some.r c.in_ok-push-in-Some.ensures.items kept.there
-    (done-there (terms_of c.args.cells.now) (terms_of c.add.new.self) (reverse c.args.done.now.items) gains c.requires.done)
+pub visit_part-requires-clause-is_part : goal.visit_part-requires-clause-is_part
+visit_part-requires-clause-is_part c =
+    let image = subst (IsImage (terms_of c.args.cells.now) c.args.put (images (terms_of c.args.cells.now) c.args.put c.args.under c.args.i)) c.in-Other.is (c.in_ok-j.ensures (terms_of c.args.cells.now)) in
+    image.0
 
-pub returns-in_ok-push-in-Some-clause-steps : goal.returns-in_ok-push-in-Some-clause-steps
-returns-in_ok-push-in-Some-clause-steps c = λ work.
-    let kept = added-kept (terms_of c.args.cells.now) (terms_of c.add.new.self) (cell_term (terms_of c.args.cells.now) c.in-Some.cell) c.in_ok-r-in-Some.r c.in_ok-r-in-Some.ensures.number c.in_ok-r-in-Some.ensures.added in
-    let gains = added-gains (terms_of c.args.cells.now) (terms_of c.add.new.self) (cell_term (terms_of c.args.cells.now) c.in-Some.cell) c.in_ok-r-in-Some.ensures.added in
-    let image = subst (λ o. IsImage o (images c.args.put c.args.under c.args.i)) c.in-Some.is c.in_ok-cell.ensures in
-    kept-steps c.args.put (terms_of c.args.cells.now) (terms_of c.add.new.self) work c.args.done.now.items c.push.new.self.items c.args.part c.args.under c.in_ok-r-in-Some.r (cell_term (terms_of c.args.cells.now) c.in-Some.cell) gains c.requires.done
-    (ap (replaced (images c.args.put c.args.under)) c.requires.here ∙ image.1 ∙ ap Some (sym (leaf-at (terms_of c.args.cells.now) c.in-Some.cell image.0))) kept c.in_ok-push-in-Some.ensures.items
+pub visit_part-requires-clause-head : goal.visit_part-requires-clause-head
+visit_part-requires-clause-head c = subst IsHeadTerm (sym c.requires.here) tt
 
-pub returns-in-None-clause-steps : goal.returns-in-None-clause-steps
-returns-in-None-clause-steps c = λ work.
-    let image = subst (λ o. IsImage o (images c.args.put c.args.under c.args.i)) c.in-None.is c.in_ok-cell.ensures in
-    steps-none c.args.put (terms_of c.args.cells.now) work (reverse c.args.done.now.items) c.args.part c.args.under (ap (replaced (images c.args.put c.args.under)) c.requires.here ∙ image)
+pub visit_part-requires-clause-becomes : goal.visit_part-requires-clause-becomes
+visit_part-requires-clause-becomes c =
+    let image = subst (IsImage (terms_of c.args.cells.now) c.args.put (images (terms_of c.args.cells.now) c.args.put c.args.under c.args.i)) c.in-Other.is (c.in_ok-j.ensures (terms_of c.args.cells.now)) in
+    ap (replaced (images (terms_of c.args.cells.now) c.args.put c.args.under)) c.requires.here ∙ image.1
+
+pub returns-in-Nothing-clause-steps : goal.returns-in-Nothing-clause-steps
+returns-in-Nothing-clause-steps c =
+    let image = subst (IsImage (terms_of c.args.cells.now) c.args.put (images (terms_of c.args.cells.now) c.args.put c.args.under c.args.i)) c.in-Nothing.is (c.in_ok-j.ensures (terms_of c.args.cells.now)) in
+    steps-none c.args.put (terms_of c.args.cells.now) (reverse c.args.work.now.items) (reverse c.args.done.now.items) c.args.part c.args.under (ap (replaced (images (terms_of c.args.cells.now) c.args.put c.args.under)) c.requires.here ∙ image)
