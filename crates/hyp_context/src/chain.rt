@@ -1,7 +1,7 @@
 //! A list whose tails are shared.
 
 ghost use Rattle.std.specs.Prelude.{◌≡◌, ◌∷◌, [], IfOk};
-ghost use Rattle.hyp_context.specs.Items.{items_of};
+ghost use Rattle.hyp_context.specs.inside.Items.{items_of};
 
 use hyp_clause::Hyp;
 use std::alloc::{AllocError, Global};
@@ -9,15 +9,17 @@ use std::rc::Rc;
 
 /// A list of hypothetical clauses, newest first. Lists share their tails.
 #[cycle(chain)]
-pub enum Chain {
+pub(crate) enum Chain {
+    /// The empty list.
     End,
+    /// A hypothetical clause before older ones.
     Link(Rc<Entry>),
 }
 
 /// A hypothetical clause before older ones.
 #[derive(Drop)]
 #[cycle(chain)]
-pub struct Entry {
+pub(crate) struct Entry {
     pub hyp: Rc<Hyp>,
     pub older: Chain,
 }
@@ -48,7 +50,7 @@ impl Chain {
         }
     }
 
-    /// With one more in front.
+    /// The list with one more in front, in constant time.
     pub fn with(self, alloc: Global, hyp: Rc<Hyp>) -> Result<Chain, AllocError>
         ensures { IfOk result (λ c. items_of c ≡ hyp.value ∷ items_of self) }
     {

@@ -1,15 +1,15 @@
 //! The assumptions of a goal, in lists that goals share.
 //!
-//! Making a context for a goal from that of another, and giving it to two goals, takes constant time.
-//! Adding an assumption takes time in the number of predicates that are assumed. The assumptions of a
-//! predicate are found in time in that number, and none of another predicate is looked at.
+//! A copy takes constant time. An assumption takes the time and the memory of the binary digits of
+//! its predicate's number, and so does finding the assumptions of a predicate, of which none of
+//! another is looked at: neither hangs on how many assumptions or predicates there are.
 #![tactic(auto)]
 
 mod chain;
 mod context;
+mod table;
 
 pub use context::{Context, HypIter};
-
 
 #[cfg(test)]
 mod tests;
