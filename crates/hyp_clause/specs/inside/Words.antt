@@ -1,0 +1,22 @@
+-- What a constant, or a name, at the head makes of a clause.
+use Rattle.std.specs.Prelude.{ℕ, cond, nat_lt, Option, Some, None}
+use Rattle.ref_terms.specs.declared.fault.Fault.{Fault}
+use Rattle.ref_terms.specs.declared.fault.Fault.TheVariants.{FlexClause, NotGoal}
+use Rattle.ref_terms.specs.search.Reserved.{Reserved, And_word, Implies_word, If_word, Pi_word, Nonvar_word, Distinct_word}
+use Rattle.hyp_clause.specs.declared.reading.Word.{Word}
+use Rattle.hyp_clause.specs.declared.reading.Word.TheVariants.{And, If, Implies, Pi, Other, Free}
+
+-- a reserved name, or none
+abbrev pub word_kind : Option Reserved → Word
+word_kind None = Free
+word_kind (Some And_word) = And
+word_kind (Some If_word) = If
+word_kind (Some Implies_word) = Implies
+word_kind (Some Pi_word) = Pi
+word_kind (Some Nonvar_word) = Free
+word_kind (Some Distinct_word) = Free
+word_kind (Some _) = Other
+
+-- the fault of a name at the head: a parameter's, or another's
+abbrev pub fault_of_name : (scope level : ℕ) → Fault
+fault_of_name scope level = cond (nat_lt level scope) NotGoal FlexClause
