@@ -72,7 +72,7 @@ pub put-other : (n : ℕ) (s : Term) (h : Head) → is_name n h ≡ false → fi
 put-other n s h e = ap (λ b. cond b s (At h)) e
 
 -- the name of a depth isn't in what is valid there
-low-read : (g : Graph) (t depth : ℕ) → IsValid g t depth → has_name depth (read g t names) ≡ false
+pub low-read : (g : Graph) (t depth : ℕ) → IsValid g t depth → has_name depth (read g t names) ≡ false
 low-read g t depth v = ap (has_name depth) (readings_local g t depth names (low_names depth) v (λ i h. low-same depth i h)) ∙ nameless-read depth g t (low_names depth) (low-lack depth)
 
 pub put-low_read : (g : Graph) (t depth : ℕ) (s : Term) → IsValid g t depth → fill (put_name depth s) (read g t names) ≡ read g t names
