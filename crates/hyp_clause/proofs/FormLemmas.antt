@@ -1,11 +1,12 @@
 -- Forms around clauses.
-use Rattle.std.proofs.Common.{◌≡◌, ℕ, zero, suc, ◌+◌, ◌<◌, ◌≤◌, List, [], ◌∷◌, ◌++◌, map, refl, sym, ap, ap₂, ◌∙◌, arith, subst, append-nil, append_assoc}
-use Rattle.std.proofs.lemmas.List.{map-append}
+use Rattle.std.proofs.Common.{◌≡◌, ℕ, zero, suc, ◌+◌, ◌<◌, ◌≤◌, List, [], ◌∷◌, ◌++◌, map, reverse, refl, sym, ap, ap₂, ◌∙◌, arith, subst, append-nil, append_assoc}
+use Rattle.std.proofs.lemmas.List.{map-append, reverse-append}
 use mathlib.Core.Path.{fun_ext}
 use Rattle.ref_terms.specs.terms.Term.{Term}
 use Rattle.ref_terms.specs.unification.Closing.{close}
 use Rattle.ref_terms.specs.search.Reserved.{if_term, implies_term, pi_term}
 use Rattle.ref_terms.specs.search.Assumption.{Assumption, guarded, quantified}
+use Rattle.ref_terms.specs.declared.fault.Fault.{Fault}
 use Rattle.ref_terms.specs.search.Fault.{Judged, Good, Bad, judged_map, judged_append}
 use Rattle.level_terms.specs.declared.node.TermId.{TermId}
 use Rattle.level_terms.specs.Graph.{Graph}
@@ -38,9 +39,29 @@ around-pi g l fs h =
     let e : all_read g (goals_of fs ++ []) ++ h.conditions ≡ all_read g (goals_of fs) ++ h.conditions = ap (λ (xs : List TermId). all_read g xs ++ h.conditions) (append-nil (goals_of fs)) in
     λ i. record { pred = h.pred; scope = h.scope; parameters = h.parameters; head = h.head; conditions = e i; assumed = assumed_around g fs (pi_term (close l h.assumed)) }
 
+-- conditions, gathered from the inside
+own-reverse : (f : Form) → reverse (own_goals f) ≡ own_goals f
+own-reverse (If t) = refl
+own-reverse (Implies t) = refl
+own-reverse (Pi l) = refl
+
+pub goals-step : (f : Form) (fs : List Form) (old new whole : List TermId) → new ≡ old ++ own_goals f → goals_of (f ∷ fs) ++ reverse old ≡ whole → goals_of fs ++ reverse new ≡ whole
+goals-step f fs old new whole e w =
+    ap (λ (xs : List TermId). goals_of fs ++ reverse xs) e
+    ∙ ap (λ (xs : List TermId). goals_of fs ++ xs) (reverse-append old (own_goals f) ∙ ap (λ (xs : List TermId). xs ++ reverse old) (own-reverse f))
+    ∙ sym (append_assoc (goals_of fs) (own_goals f) (reverse old))
+    ∙ w
+
+-- clauses, and a fault, that are judged
+abbrev pub good : List Assumption → Judged (List Assumption)
+good hs = Good hs
+
+abbrev pub bad : Fault → Judged (List Assumption)
+bad f = Bad f
+
 -- what is judged, with a function on the clauses
 pub judged-twice : (f q p : Assumption → Assumption) → ((h : Assumption) → p h ≡ f (q h)) → (j : Judged (List Assumption)) → judged_map (map p) j ≡ judged_map (map f) (judged_map (map q) j)
-judged-twice f q p e (Good hs) = ap Good (go hs)
+judged-twice f q p e (Good hs) = ap good (go hs)
   where
     go : (xs : List Assumption) → map p xs ≡ map f (map q xs)
     go [] = refl
@@ -48,7 +69,7 @@ judged-twice f q p e (Good hs) = ap Good (go hs)
 judged-twice f q p e (Bad x) = refl
 
 pub judged-both : (f : Assumption → Assumption) (j k : Judged (List Assumption)) → judged_map (map f) (judged_append j k) ≡ judged_append (judged_map (map f) j) (judged_map (map f) k)
-judged-both f (Good xs) (Good ys) = ap Good (map-append f xs ys)
+judged-both f (Good xs) (Good ys) = ap good (map-append f xs ys)
 judged-both f (Good xs) (Bad e) = refl
 judged-both f (Bad e) k = refl
 

@@ -5,3 +5,5 @@ pub mod HypLemmas
 pub mod PartLemmas
 pub mod WaitLemmas
 pub mod LawLemmas
+pub mod InstanceLemmas
+pub mod OkLemmas

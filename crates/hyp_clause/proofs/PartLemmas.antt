@@ -34,11 +34,11 @@ use Rattle.hyp_clause.specs.declared.forms.Form.TheVariants.{If, Implies, Pi}
 use Rattle.hyp_clause.specs.declared.reading.Word.{Word}
 use Rattle.hyp_clause.specs.declared.reading.Word.TheVariants.{And as AndKind, If as IfKind, Implies as ImpliesKind, Pi as PiKind, Other, Free}
 use Rattle.hyp_clause.specs.Hyps.{assumption_in, IsHypValid}
-use Rattle.hyp_clause.specs.inside.Words.{word_kind, fault_of_name}
+use Rattle.hyp_clause.specs.inside.Words.{word_kind, fault_of_name, form_fault}
 use Rattle.hyp_clause.specs.inside.Forms.{goals_of, assumed_around, around, AreFormsAt}
 use Rattle.hyp_clause.specs.inside.Parts.{Task, Seen, kept, one, two, failed, part_term, inside, both_of, conditional_of, implied_of, IsQuantified, IsClause, IsPart, IsHeadedPart, judged, judged_seen, size_of, size_seen, IsSeen, IsTurnOf}
 use Rattle.hyp_clause.proofs.ReadAtLemmas.{total, constants-named, head-constants, head-shape, redex-shape, reader, read-shape}
-use Rattle.hyp_clause.proofs.FormLemmas.{around-if, around-implies, around-pi, judged-twice, judged-both, goals-valid, reads-grown, valid-grown, forms-grown, around-grown}
+use Rattle.hyp_clause.proofs.FormLemmas.{good, bad, around-if, around-implies, around-pi, judged-twice, judged-both, goals-valid, reads-grown, valid-grown, forms-grown, around-grown}
 
 -- a part in a heap that grew
 pub judged-grown : (g h : Graph) (scope : ℕ) (k : Task) → IsSound g → Grows g h [] [] → IsPart g scope k → judged h scope k ≡ judged g scope k
@@ -72,30 +72,20 @@ stuck-shape (At h) x xs w r = absurd w
 stuck-shape (term.App f a) x xs w r = absurd w
 
 var-shape : (v : ℕ) (xs : List Term) → headed 0 (Some (term.Var v)) xs ≡ shape.Flex v xs
-var-shape v xs = ap (λ b. cond b (shape.Rigid (term.Var v) xs) (shape.Flex v xs)) (grind (arith, nat_tests))
-
--- the fault of a form that is no application of a constant
-abbrev pub form_fault : (scope : ℕ) → Whnf → Option Fault
-form_fault scope (Lam t) = Some NotGoal
-form_fault scope (Flex v ts) = Some FlexClause
-form_fault scope (RedexForm t ts) = Some Redex
-form_fault scope (Rigid (Con c) ts) = None
-form_fault scope (Rigid (Level l) ts) = Some (fault_of_name scope l)
-form_fault scope (Rigid (Int n) ts) = Some NotGoal
-form_fault scope (Rigid (Str n) ts) = Some NotGoal
+var-shape v xs = let e : nat_lt v 0 ≡ false = grind (arith, nat_tests) in ap (λ (b : Bool). cond b (shape.Rigid (term.Var v) xs) (shape.Flex v xs)) e
 
 pub form-failed : (g : Graph) (scope depth : ℕ) (k : Task) (w : Whnf) (f : Fault) → IsHeadForm g depth (part_term g k) w → form_fault scope w ≡ Some f → judged g scope k ≡ Bad f
-form-failed g scope depth k (Lam t) f h e = judged-shape g scope k shape.Abstraction (ap (shape 0) h.1 ∙ lam-shape (read g t.index names) h.0.reads) ∙ ap Bad (let q : Some NotGoal ≡ Some f = e in cc)
-form-failed g scope depth k (Flex v ts) f h e = judged-shape g scope k (shape.Flex v.index (all_read g ts)) (ap (shape 0) h.3 ∙ head-shape (term.Var v.index) (all_read g ts) ∙ var-shape v.index (all_read g ts)) ∙ ap Bad (let q : Some FlexClause ≡ Some f = e in cc)
+form-failed g scope depth k (Lam t) f h e = judged-shape g scope k shape.Abstraction (ap (shape 0) h.1 ∙ lam-shape (read g t.index names) h.0.reads) ∙ ap bad (let q : Some NotGoal ≡ Some f = e in cc)
+form-failed g scope depth k (Flex v ts) f h e = judged-shape g scope k (shape.Flex v.index (all_read g ts)) (ap (shape 0) h.3 ∙ head-shape (term.Var v.index) (all_read g ts) ∙ var-shape v.index (all_read g ts)) ∙ ap bad (let q : Some FlexClause ≡ Some f = e in cc)
 form-failed g scope depth k (RedexForm t []) f h e = absurd h.1
-form-failed g scope depth k (RedexForm t (a ∷ ts)) f h e = judged-shape g scope k shape.Redex (ap (shape 0) h.3 ∙ stuck-shape (read g t.index names) (read g a.index names) (all_read g ts) h.0.reads h.1) ∙ ap Bad (let q : Some Redex ≡ Some f = e in cc)
+form-failed g scope depth k (RedexForm t (a ∷ ts)) f h e = judged-shape g scope k shape.Redex (ap (shape 0) h.3 ∙ stuck-shape (read g t.index names) (read g a.index names) (all_read g ts) h.0.reads h.1) ∙ ap bad (let q : Some Redex ≡ Some f = e in cc)
 form-failed g scope depth k (Rigid (Con c) ts) f h e = absurd (let q : None ≡ Some f = e in cc)
-form-failed g scope depth k (Rigid (Int n) ts) f h e = judged-shape g scope k (shape.Rigid (term.Int n) (all_read g ts)) (ap (shape 0) h.1 ∙ head-shape (term.Int n) (all_read g ts)) ∙ ap Bad (let q : Some NotGoal ≡ Some f = e in cc)
-form-failed g scope depth k (Rigid (Str n) ts) f h e = judged-shape g scope k (shape.Rigid (term.Str n) (all_read g ts)) (ap (shape 0) h.1 ∙ head-shape (term.Str n) (all_read g ts)) ∙ ap Bad (let q : Some NotGoal ≡ Some f = e in cc)
+form-failed g scope depth k (Rigid (Int n) ts) f h e = judged-shape g scope k (shape.Rigid (term.Int n) (all_read g ts)) (ap (shape 0) h.1 ∙ head-shape (term.Int n) (all_read g ts)) ∙ ap bad (let q : Some NotGoal ≡ Some f = e in cc)
+form-failed g scope depth k (Rigid (Str n) ts) f h e = judged-shape g scope k (shape.Rigid (term.Str n.0) (all_read g ts)) (ap (shape 0) h.1 ∙ head-shape (term.Str n.0) (all_read g ts)) ∙ ap bad (let q : Some NotGoal ≡ Some f = e in cc)
 form-failed g scope depth k (Rigid (Level l) ts) f h e =
     judged-shape g scope k (shape.Rigid (term.Name l) (all_read g ts)) (ap (shape 0) h.1 ∙ head-shape (term.Name l) (all_read g ts))
     ∙ go (nat_lt l scope)
-    ∙ ap Bad (let q : Some (fault_of_name scope l) ≡ Some f = e in cc)
+    ∙ ap bad (let q : Some (fault_of_name scope l) ≡ Some f = e in cc)
   where
     go : (b : Bool) → judged_map (map (around g k.forms)) (cond b (Bad NotGoal) (Bad FlexClause)) ≡ Bad (cond b NotGoal FlexClause)
     go true = refl
@@ -257,8 +247,10 @@ clause-part g h scope k c args t s grows w e reads valid =
     let head = reads-grown g h s grows k.term.index (scope + k.pis) w.part.term in
     let goals = goals-valid g scope (scope + k.pis) k.forms w.part.forms in
     let conditions = read-grown_all g h (scope + k.pis) s grows (goals_of k.forms) goals ∙ sym (append-nil (all_read g (goals_of k.forms))) in
+    let same : assumption_in h (record { pred = c; depth = scope; pis = k.pis; head = k.term; body = goals_of k.forms; term = t }) ≡ around g k.forms (atom_of scope k.pis c.0 (part_term g k)) =
+    λ i. record { pred = c.0; scope = scope; parameters = k.pis; head = head i; conditions = conditions i; assumed = reads i } in
     record {
-      reads = (λ i. Good (record { pred = c.0; scope = scope; parameters = k.pis; head = head i; conditions = conditions i; assumed = reads i } ∷ []))
+      reads = ap (λ (x : Assumption). good (x ∷ [])) same
           ∙ sym (head-judged g scope k c args (word_of c.0) w refl ∙ ap (judged_map (map (around g k.forms))) (free-form (reader scope) scope k.pis c.0 (word_of c.0) (all_read g args) (part_term g k) e));
       makes_sense = record {
         head = valid-grown g h s grows k.term.index (scope + k.pis) w.part.term;

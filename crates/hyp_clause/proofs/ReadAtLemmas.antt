@@ -1,7 +1,7 @@
 -- Reading clauses: however many forms may be read, as long as they are enough.
 use Rattle.std.proofs.Common.{◌≡◌, ℕ, zero, suc, ◌+◌, ◌<◌, ◌≤◌, List, [], ◌∷◌, ◌++◌, Bool, true, false, cond, nat_lt, Option, Some, None, refl, sym, ap, ap₂, ◌∙◌, arith, map, append-nil, append_assoc}
 use Rattle.ref_terms.specs.terms.Term.{Term, Lam, At, App, Head, Con, Int, Str, Name, Bound, Var}
-use Rattle.ref_terms.specs.terms.Index.{sub, sub_head, shift, ren, ren_head, under, first, next}
+use Rattle.ref_terms.specs.terms.Index.{sub, sub_head, shift, ren, ren_head, under, first, next, up}
 use Rattle.ref_terms.specs.terms.Apply.{apply}
 use Rattle.ref_terms.specs.terms.Ready.{ready}
 use Rattle.ref_terms.specs.unification.Shape.{Shape, Abstraction, Redex as RedexShape, Rigid, Flex, shape, headed}
@@ -27,7 +27,7 @@ abbrev AreBare : (ℕ → Term) → Type 0
 AreBare s = (i : ℕ) → constants (s i) ≡ 0
 
 constants-ren : (f : ℕ → ℕ) (t : Term) → constants (ren f t) ≡ constants t
-constants-ren f (Lam b) = constants-ren _ b
+constants-ren f (Lam b) = constants-ren (up f) b
 constants-ren f (At (Con c)) = refl
 constants-ren f (At (Int c)) = refl
 constants-ren f (At (Str c)) = refl

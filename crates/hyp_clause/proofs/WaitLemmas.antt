@@ -1,19 +1,25 @@
 -- Parts that wait.
 use Rattle.std.proofs.Common.{◌≡◌, ℕ, ◌+◌, ◌<◌, List, [], ◌∷◌, ◌++◌, map, reverse, refl, sym, ap, ap₂, ◌∙◌, arith, subst, append-nil, append_assoc}
 use Rattle.std.proofs.lemmas.List.{map-append, reverse-append}
-use Rattle.ref_terms.specs.search.Fault.{Judged, Good, Bad, judged_append}
-use Rattle.ref_terms.specs.search.Assumption.{Assumption}
+use Rattle.ref_terms.specs.search.Fault.{Judged, Good, Bad, judged_append, judged_map}
+use Rattle.ref_terms.specs.search.Assumption.{Assumption, assumptions_of}
 use Rattle.level_terms.specs.Graph.{Graph}
 use Rattle.level_terms.specs.Growth.{Grows}
 use Rattle.level_terms.specs.Sound.{IsSound}
+use Rattle.level_terms.specs.Valid.{IsValid}
 use Rattle.hyp_clause.specs.declared.hyp.Hyp.{Hyp}
 use Rattle.hyp_clause.specs.declared.hyp.HypStop.{HypStop}
 use Rattle.hyp_clause.specs.declared.hyp.HypStop.TheVariants.{Fault, Memory}
+use Rattle.level_terms.specs.declared.node.TermId.{TermId}
+use Rattle.level_terms.specs.Reading.{read}
+use Rattle.beta_fragment.specs.Names.{names}
+use Rattle.hyp_clause.specs.inside.Forms.{around}
 use Rattle.hyp_clause.specs.declared.part.Part.{Part}
 use Rattle.hyp_clause.specs.Hyps.{assumption_in, AllHypsValid, IsHypFault}
 use Rattle.hyp_clause.specs.inside.Parts.{Task, Seen, kept, one, two, failed, task_of, judged, size_of, judged_seen, IsPart, IsTurnOf}
 use Rattle.hyp_clause.specs.inside.Waiting.{waiting, all_judged, whole, AreParts, sizes, IsTaken, IsRefused, GoesOn}
 use Rattle.hyp_clause.proofs.HypLemmas.{hyps-read, hyps-valid, hyps-append}
+use Rattle.hyp_clause.proofs.FormLemmas.{good}
 use Rattle.hyp_clause.proofs.PartLemmas.{judged-grown, part-grown, size-grown}
 
 -- one more part waits
@@ -22,7 +28,7 @@ waiting-more ps new p e = ap waiting e ∙ ap reverse (map-append task_of ps (p 
 
 -- lists that are judged, one after the other
 join-assoc : (a b c : Judged (List Assumption)) → judged_append (judged_append a b) c ≡ judged_append a (judged_append b c)
-join-assoc (Good xs) (Good ys) (Good zs) = ap Good (append_assoc xs ys zs)
+join-assoc (Good xs) (Good ys) (Good zs) = ap good (append_assoc xs ys zs)
 join-assoc (Good xs) (Good ys) (Bad e) = refl
 join-assoc (Good xs) (Bad e) c = refl
 join-assoc (Bad e) b c = refl
@@ -68,7 +74,7 @@ module _ (g h : Graph) (scope : ℕ) (k : Task) (hs : List Hyp) (ks : List Task)
   two-on l m t = record {
     reads = ap (judged_append (Good (map (assumption_in h) hs))) (sym (join-assoc (judged h scope l) (judged h scope m) (all_judged h scope ks)))
         ∙ ap (λ (j : Judged (List Assumption)). judged_append (Good (map (assumption_in h) hs)) (judged_append j (all_judged h scope ks))) t.reads ∙ older;
-    parts = (t.makes_sense.0, t.makes_sense.1, parts-grown g h scope ks s w parts.1);
+    parts = (t.makes_sense.0, (t.makes_sense.1, parts-grown g h scope ks s w parts.1));
     hyps = hyps-valid g h [] [] hs s w hyps;
     smaller = (let e = sizes-grown g h scope ks s w parts.1 in let d = t.smaller in omega arith);
   }
@@ -93,4 +99,37 @@ pub on-then : (f g h : Graph) (scope : ℕ) (hs hs' : List Hyp) (k : Task) (old 
 on-then f g h scope hs hs' k old ks ks' j e r w = w.reads ∙ ap (whole g scope hs) (sym e) ∙ r
 
 pub all-read : (g : Graph) (scope : ℕ) (hs : List Hyp) (ks : List Task) (j : Judged (List Assumption)) → ks ≡ [] → whole g scope hs ks ≡ j → Good (map (assumption_in g) hs) ≡ j
-all-read g scope hs ks j e r = ap Good (sym (append-nil (map (assumption_in g) hs))) ∙ ap (whole g scope hs) (sym e) ∙ r
+all-read g scope hs ks j e r = ap good (sym (append-nil (map (assumption_in g) hs))) ∙ ap (whole g scope hs) (sym e) ∙ r
+
+-- the parts before one is taken out
+pub waiting-taken : (old ps : List Part) (p : Part) → old ≡ ps ++ p ∷ [] → waiting old ≡ task_of p ∷ waiting ps
+waiting-taken old ps p e = waiting-more ps old p e
+
+pub parts-taken : (g : Graph) (scope : ℕ) (old ps : List Part) (p : Part) → old ≡ ps ++ p ∷ [] → AreParts g scope (waiting old) → AreParts g scope (task_of p ∷ waiting ps)
+parts-taken g scope old ps p e w = subst (AreParts g scope) (waiting-taken old ps p e) w
+
+-- the loop goes on
+pub whole-kept : (g h : Graph) (scope : ℕ) (hs hs' : List Hyp) (old ps : List Part) (p : Part) (ks' : List Task) (j : Judged (List Assumption)) → old ≡ ps ++ p ∷ [] → whole g scope hs (waiting old) ≡ j → GoesOn g h scope hs (task_of p ∷ waiting ps) hs' ks' → whole h scope hs' ks' ≡ j
+whole-kept g h scope hs hs' old ps p ks' j e r w = w.reads ∙ ap (whole g scope hs) (sym (waiting-taken old ps p e)) ∙ r
+
+pub sizes-fall : (g h : Graph) (scope : ℕ) (hs hs' : List Hyp) (old ps : List Part) (p : Part) (ks' : List Task) → old ≡ ps ++ p ∷ [] → GoesOn g h scope hs (task_of p ∷ waiting ps) hs' ks' → sizes h ks' < sizes g (waiting old)
+sizes-fall g h scope hs hs' old ps p ks' e w = subst (λ (ks : List Task). sizes h ks' < sizes g ks) (sym (waiting-taken old ps p e)) w.smaller
+
+pub fault-kept : (g : Graph) (scope : ℕ) (hs : List Hyp) (old ps : List Part) (p : Part) (j : Judged (List Assumption)) (stop : HypStop) → old ≡ ps ++ p ∷ [] → whole g scope hs (waiting old) ≡ j → IsHypFault stop (whole g scope hs (task_of p ∷ waiting ps)) → IsHypFault stop j
+fault-kept g scope hs old ps p j stop e r f = subst (IsHypFault stop) (ap (whole g scope hs) (sym (waiting-taken old ps p e)) ∙ r) f
+
+-- and begins with the whole term
+pub whole-first : (g : Graph) (scope : ℕ) (t : TermId) → whole g scope [] (record { term = t; pis = 0; forms = [] } ∷ []) ≡ assumptions_of scope (read g t.index names)
+whole-first g scope t = go (assumptions_of scope (read g t.index names))
+  where
+    own : (hs : List Assumption) → map (around g []) hs ≡ hs
+    own [] = refl
+    own (h ∷ hs) = ap (λ (xs : List Assumption). h ∷ xs) (own hs)
+    go : (j : Judged (List Assumption)) → judged_append (Good []) (judged_append (judged_map (map (around g [])) j) (Good [])) ≡ j
+    go (Good hs) = ap good (append-nil (map (around g []) hs) ∙ own hs)
+    go (Bad f) = refl
+
+pub first-part : (g : Graph) (scope : ℕ) (t : TermId) → IsValid g t.index scope → AreParts g scope (record { term = t; pis = 0; forms = [] } ∷ [])
+first-part g scope t w =
+    let e : scope ≡ scope + 0 = omega arith in
+    (record { term = subst (IsValid g t.index) e w; forms = sym e }, tt)

@@ -1,11 +1,12 @@
 //! A clause with the forms around it.
 
-ghost use Rattle.std.specs.Prelude.{◌≡◌, ◌+◌, [], IfOk};
+ghost use Rattle.std.specs.Prelude.{◌≡◌, ◌++◌, [], IfOk, OnOk};
 ghost use Rattle.level_terms.specs.Valid.{IsValid};
 ghost use Rattle.level_terms.specs.Reading.{read};
 ghost use Rattle.level_terms.specs.Growth.{Grows};
+ghost use Rattle.level_terms.specs.Sound.{IsSound};
 ghost use Rattle.beta_fragment.specs.Names.{names};
-ghost use Rattle.hyp_clause.specs.inside.Forms.{forms_of, goals_of, wrapped, assumed_around, IsFormAt, level_outside, AreFormsAt};
+ghost use Rattle.hyp_clause.specs.inside.Forms.{forms_of, own_goals, goals_of, wrapped, assumed_around, IsFormAt, level_outside, AreFormsAt};
 
 use crate::forms::{Form, Forms};
 use crate::making::{abstracted, constant_applied};
@@ -29,14 +30,25 @@ pub(crate) fn conditions_of(alloc: Global, forms: &Forms) -> Result<TermIds, All
     let mut goals = Vec::new(alloc);
     let mut at = forms;
     while let Forms::Inside(layer) = at {
-        match layer.form {
-            Form::If(goal) | Form::Implies(goal) => goals.push(goal)?,
-            Form::Pi(_) => {}
-        }
+        add_goal(&mut goals, layer.form)?;
         at = &layer.outer;
     }
     goals.reverse();
-    TermIds::from_slice(alloc, goals.as_slice())
+    let conditions = TermIds::from_slice(alloc, goals.as_slice())?;
+    Ok(conditions)
+}
+
+/// Puts the condition that a form gives last, if it gives one.
+fn add_goal(goals: &mut Vec<TermId>, form: Form) -> Result<(), AllocError>
+    ensures { OnOk result (goals.new.items ≡ goals.old.items ++ own_goals form) }
+{
+    match form {
+        Form::If(goal) | Form::Implies(goal) => {
+            goals.push(goal)?;
+            Ok(())
+        }
+        Form::Pi(_) => Ok(()),
+    }
 }
 
 /// The term, which is valid at the depth, with the forms around it.
@@ -52,8 +64,9 @@ pub(crate) fn assumed_by(heap: &mut Heap, forms: &Forms, term: TermId, depth: us
     let mut under = depth;
     let mut at = forms;
     while let Forms::Inside(layer) = at {
-        whole = with_form(heap, layer.form, whole, under)?;
-        under = outside(layer.form, under);
+        let form = layer.form;
+        whole = with_form(heap, form, whole, under)?;
+        under = outside(form, under);
         at = &layer.outer;
     }
     Ok(whole)
@@ -75,9 +88,11 @@ fn with_form(heap: &mut Heap, form: Form, term: TermId, depth: usize) -> Result<
     requires valid { IsValid heap.old term.index depth }
     ensures reads { IfOk result (λ r. read heap.new r.index names ≡ wrapped heap.old form (read heap.old term.index names)) }
     ensures valid { IfOk result (λ r. IsValid heap.new r.index (level_outside form depth)) }
+    ensures sound { IsSound heap.old }
     ensures variables { heap.new.depths ≡ heap.old.depths }
     ensures grows { Grows heap.old heap.new [] [] }
 {
+    heap.is_sound();
     match form {
         Form::If(goal) => constant_applied(heap, IF, &[term, goal], depth),
         Form::Implies(goal) => constant_applied(heap, IMPLIES, &[goal, term], depth),

@@ -52,7 +52,10 @@ pub fn compile_hyp(
         },
     )?;
     while let Some(part) = parts.pop() {
-        step(alloc, heap, part, depth, &mut parts, &mut hyps)?;
+        match step(alloc, heap, part, depth, &mut parts, &mut hyps) {
+            Ok(()) => {}
+            Err(stop) => return Err(stop),
+        }
     }
     Ok(hyps)
 }
@@ -75,7 +78,10 @@ fn step(
 {
     heap.is_sound();
     let found = turn(alloc, heap, &part, depth)?;
-    take_in(parts, hyps, found)
+    match take_in(parts, hyps, found) {
+        Ok(()) => Ok(()),
+        Err(stop) => Err(stop),
+    }
 }
 
 /// Takes in what was seen of a part.
@@ -84,15 +90,21 @@ fn take_in(parts: &mut Vec<Part>, hyps: &mut Hyps, found: Turn) -> Result<(), Hy
     ensures fault { IfErr result (λ stop. IsRefused (seen found) stop) }
 {
     match found {
-        Turn::Clause(hyp) => keep(hyps, hyp)?,
-        Turn::One(part) => add(parts, part)?,
+        Turn::Clause(hyp) => {
+            keep(hyps, hyp)?;
+            Ok(())
+        }
+        Turn::One(part) => {
+            add(parts, part)?;
+            Ok(())
+        }
         Turn::Both(first, second) => {
             add(parts, second)?;
             add(parts, first)?;
+            Ok(())
         }
-        Turn::Failed(fault) => return Err(HypStop::Fault(fault)),
+        Turn::Failed(fault) => Err(HypStop::Fault(fault)),
     }
-    Ok(())
 }
 
 /// Puts a clause last.

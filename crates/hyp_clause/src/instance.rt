@@ -9,10 +9,11 @@ ghost use Rattle.level_terms.specs.Reading.{read};
 ghost use Rattle.level_terms.specs.Valid.{IsValid};
 ghost use Rattle.level_terms.specs.Growth.{Grows};
 ghost use Rattle.beta_fragment.specs.Names.{names};
-ghost use Rattle.beta_fragment.specs.HeadForm.{all_read, AllValidAt, IsHeadForm};
+ghost use Rattle.beta_fragment.specs.HeadForm.{all_read, AllValidAt};
 ghost use Rattle.beta_fragment.specs.Instantiation.{put_names, AllPlain};
 ghost use Rattle.hyp_clause.specs.Hyps.{assumption_in, IsHypValid};
 ghost use Rattle.hyp_clause.specs.Instances.{variables_from};
+ghost use Rattle.hyp_clause.specs.inside.Arguments.{form_args};
 
 use crate::hyp::{Hyp, HypInstance};
 use beta_fragment::{Whnf, instantiate, whnf};
@@ -102,8 +103,7 @@ fn arguments_of(alloc: Global, heap: &mut Heap, t: TermId, depth: usize) -> Resu
 
 /// The arguments of a form.
 fn arguments_in(alloc: Global, form: Whnf) -> TermIds
-    ensures args { (g : Graph) (depth : ℕ) (u : Term) → IsHeadForm g depth u form → all_read g result ≡ args_of u }
-    ensures valid { (g : Graph) (depth : ℕ) (u : Term) → IsHeadForm g depth u form → AllValidAt g result depth }
+    ensures { result ≡ form_args form }
 {
     match form {
         Whnf::Lam(_) => TermIds::new(alloc),
@@ -132,10 +132,11 @@ fn instances_of(
     ensures variables { heap.new.depths ≡ heap.old.depths }
     ensures grows { Grows heap.old heap.new [] [] }
 {
+    heap.is_sound();
     let mut instances = Vec::new(alloc);
-    for term in terms {
+    for i in 0..terms.len() {
         heap.is_sound();
-        let r = instance_of(alloc, heap, *term, from, to, puts)?;
+        let r = instance_of(alloc, heap, terms[i], from, to, puts)?;
         instances.push(r)?;
     }
     Ok(instances)
@@ -175,11 +176,12 @@ fn fresh_variables(
 ) -> Result<Vec<TermId>, AllocError>
     ensures reads { IfOk result (λ ts. all_read heap.new ts.items ≡ variables_from depth (length heap.old.depths) count) }
     ensures valid { IfOk result (λ ts. AllValidAt heap.new ts.items depth) }
+    ensures count { IfOk result (λ ts. length ts.items ≡ count) }
     ensures depths { IfOk result (λ ts. heap.new.depths ≡ heap.old.depths ++ replicate count depth) }
     ensures grows { Grows heap.old heap.new [] [] }
 {
     let mut nodes = Vec::new(alloc);
-    for _made in 0..count {
+    for made in 0..count {
         heap.is_sound();
         let t = fresh_variable(heap, depth)?;
         nodes.push(t)?;

@@ -5,10 +5,13 @@ mod around;
 mod compile;
 mod forms;
 mod hyp;
+mod instance;
+pub mod laws;
 mod making;
 mod part;
 mod reading;
-mod stand_in;
 
 pub use compile::compile_hyp;
 pub use hyp::{Hyp, HypInstance, HypStop, Hyps};
+pub use instance::{hyp_body_of, hyp_head_of};
+pub use making::constant_applied;

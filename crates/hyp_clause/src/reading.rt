@@ -1,6 +1,6 @@
 //! What a part is read as.
 
-ghost use Rattle.std.specs.Prelude.{◌≡◌, ◌+◌, ◌<◌, ◌≤◌, ◌∷◌, [], length, IfOk};
+ghost use Rattle.std.specs.Prelude.{◌≡◌, ◌+◌, ◌<◌, ◌≤◌, ◌∷◌, [], length, None, IfOk};
 ghost use Rattle.level_terms.specs.Valid.{IsValid};
 ghost use Rattle.level_terms.specs.Reading.{read};
 ghost use Rattle.level_terms.specs.Growth.{Grows};
@@ -10,15 +10,15 @@ ghost use Rattle.ref_terms.specs.search.Reserved.{word_of};
 ghost use Rattle.beta_fragment.specs.Names.{names};
 ghost use Rattle.beta_fragment.specs.HeadForm.{all_read, AllValidAt, IsHeadForm};
 ghost use Rattle.hyp_clause.specs.inside.Words.{word_kind};
-ghost use Rattle.hyp_clause.specs.inside.Words.{fault_of_name};
+ghost use Rattle.hyp_clause.specs.inside.Words.{fault_of_name, form_fault};
 ghost use Rattle.hyp_clause.specs.inside.Parts.{task_of, seen, inside, both_of, conditional_of, implied_of, IsQuantified, IsClause, IsPart, IsHeadedPart, IsTurnOf};
 
 use crate::around::{assumed_by, conditions_of};
 use crate::forms::Form;
 use crate::hyp::Hyp;
 use crate::part::{Part, Turn};
-use crate::stand_in::applied_to_level;
-use beta_fragment::{RigidHead, Whnf, whnf};
+
+use beta_fragment::{RigidHead, Whnf, applied_to_level, whnf};
 use level_terms::{Heap, TermId};
 use ref_terms::{Fault, Sym};
 use std::alloc::{AllocError, Global};
@@ -76,13 +76,38 @@ fn by_form(alloc: Global, heap: &mut Heap, part: &Part, form: &Whnf, depth: usiz
     ensures variables { heap.new.depths ≡ heap.old.depths }
     ensures grows { Grows heap.old heap.new [] [] }
 {
+    match form_fault_of(form, depth) {
+        Some(fault) => Ok(Turn::Failed(fault)),
+        None => by_head(alloc, heap, part, form, depth),
+    }
+}
+
+/// The fault of a form that is no application of a constant.
+fn form_fault_of(form: &Whnf, depth: usize) -> Option<Fault>
+    ensures { result ≡ form_fault depth form.now }
+{
     match form {
-        Whnf::Lam(_) => Ok(Turn::Failed(Fault::NotGoal)),
-        Whnf::Flex(_, _) => Ok(Turn::Failed(Fault::FlexClause)),
-        Whnf::Redex(_, _) => Ok(Turn::Failed(Fault::Redex)),
+        Whnf::Lam(_) => Some(Fault::NotGoal),
+        Whnf::Flex(_, _) => Some(Fault::FlexClause),
+        Whnf::Redex(_, _) => Some(Fault::Redex),
+        Whnf::Rigid(RigidHead::Con(_), _) => None,
+        Whnf::Rigid(RigidHead::Level(level), _) => Some(name_fault(*level, depth)),
+        Whnf::Rigid(_, _) => Some(Fault::NotGoal),
+    }
+}
+
+/// What a part with a constant at the head is read as.
+fn by_head(alloc: Global, heap: &mut Heap, part: &Part, form: &Whnf, depth: usize) -> Result<Turn, AllocError>
+    requires part { IsPart heap.old depth (task_of part.now) }
+    requires form { IsHeadForm heap.old (depth + part.now.pis) (read heap.old part.now.term.index names) form.now }
+    requires constant { form_fault depth form.now ≡ None }
+    ensures turn { IfOk result (λ w. IsTurnOf heap.old heap.new depth (task_of part.now) (seen w)) }
+    ensures variables { heap.new.depths ≡ heap.old.depths }
+    ensures grows { Grows heap.old heap.new [] [] }
+{
+    match form {
         Whnf::Rigid(RigidHead::Con(c), args) => by_word(alloc, heap, part, *c, args.as_slice(), depth),
-        Whnf::Rigid(RigidHead::Level(level), _) => Ok(Turn::Failed(name_fault(*level, depth))),
-        Whnf::Rigid(_, _) => Ok(Turn::Failed(Fault::NotGoal)),
+        _ => unreachable!(),
     }
 }
 
@@ -100,6 +125,7 @@ fn by_word(alloc: Global, heap: &mut Heap, part: &Part, c: Sym, args: &[TermId],
     ensures variables { heap.new.depths ≡ heap.old.depths }
     ensures grows { Grows heap.old heap.new [] [] }
 {
+    heap.is_sound();
     match word_at(c) {
         Word::And => both(part, args),
         Word::If => conditional(alloc, part, args),

@@ -1,6 +1,7 @@
 //! Contexts.
 
-ghost use Rattle.std.specs.Prelude.{◌≡◌, ◌∷◌, ◌++◌, [], ℕ, length, filter, nat_eq, cond, IfOk, IfSome, IfNone};
+ghost use Rattle.std.specs.Prelude.{◌≡◌, ◌∷◌, ◌++◌, [], length, IfOk, IfSome, IfNone};
+ghost use Rattle.hyp_context.specs.Contexts.{hyps_for};
 
 use crate::chain::Chain;
 use crate::table::Table;
@@ -108,7 +109,7 @@ impl Context {
     /// Those of a predicate; no other is looked at. It takes the time of the binary digits of the
     /// predicate's number, and no memory.
     pub fn for_pred(&self, pred: Sym) -> HypIter<'_>
-        ensures { result ≡ filter (λ h. nat_eq pred.0 h.pred.0) self.now }
+        ensures { result ≡ hyps_for pred.0 self.now }
     {
         HypIter {
             rest: self.by_pred.find(pred.0),

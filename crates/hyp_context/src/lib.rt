@@ -7,6 +7,7 @@
 
 mod chain;
 mod context;
+pub mod laws;
 mod table;
 
 pub use context::{Context, HypIter};
