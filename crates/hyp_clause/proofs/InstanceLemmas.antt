@@ -24,9 +24,9 @@ use Rattle.level_terms.specs.Sound.{IsSound}
 use Rattle.level_terms.specs.Valid.{IsValid}
 use Rattle.level_terms.proofs.NodeLemmas.{nodes_read}
 use Rattle.level_terms.proofs.UndoLemmas.{value_in-past}
-use Rattle.level_terms.proofs.ValidLemmas.{nodes_valid, valid_deeper}
+use Rattle.level_terms.proofs.ValidLemmas.{nodes_valid, valid_deeper, growth_keeps_readings}
 use Rattle.ref_terms.specs.lemmas.OccursLemmas.{fill_at}
-use Rattle.beta_fragment.proofs.ReadLemmas.{read-built}
+use Rattle.beta_fragment.proofs.ReadLemmas.{read-built, valid-below}
 use Rattle.beta_fragment.specs.Names.{names}
 use Rattle.beta_fragment.specs.Firm.{IsPlain}
 use Rattle.beta_fragment.specs.HeadForm.{IsHeadForm, IsAbstraction, all_read, AllValidAt, rigid_head}
@@ -272,3 +272,13 @@ instanced-all old g r to terms done i h w =
     past [] (suc n) l = refl
     past (t ∷ ts) zero l = absurd (let k : suc (length ts) ≤ 0 = l in omega (arith, k))
     past (t ∷ ts) (suc n) l = past ts n (let k : suc (length ts) ≤ suc n = l in omega (arith, k))
+
+-- the arguments of a head over fresh variables
+pub head-instance : (old one two new : Graph) (a : Assumption) (depth next head : ℕ) (vs ts puts args : List TermId) → IsSound one → Grows old one [] [] → Grows one two [] [] → IsSound old → (d : ℕ) → IsValid old head d → AllValidAt one vs depth →
+    a.head ≡ read old head names → all_read one vs ≡ variables_from depth next a.parameters → all_read two ts ≡ args_of (read one head names) → puts ≡ vs → all_read new args ≡ map (fill (put_names a.scope (all_read two puts))) (all_read two ts) →
+    all_read new args ≡ map (parameter_instance a depth next) (args_of a.head)
+head-instance old one two new a depth next head vs ts puts args s w v s' d hv vv h fresh found e made =
+    let same : all_read two puts ≡ variables_from depth next a.parameters = ap (all_read two) e ∙ read-grown_all one two depth s v vs vv ∙ fresh in
+    made
+    ∙ instances-read a depth next (all_read two puts) (all_read two ts) same
+    ∙ ap (map (parameter_instance a depth next)) (found ∙ ap args_of (growth_keeps_readings old one head names s' w (valid-below old head d hv) ∙ sym h))
