@@ -12,8 +12,6 @@ use std::alloc::{AllocError, Global};
 use std::marker::Model;
 
 mod ranks;
-#[cfg(test)]
-mod tests;
 
 /// A change of an agenda: the pair of a rule and a constraint's number was put in, or taken out.
 #[derive(Clone, Copy, Debug, PartialEq, Eq)]

@@ -6,9 +6,6 @@ ghost use Rattle.std.specs.Prelude.{◌≡◌, [], ◌∷◌, ◌++◌, ◌-◌,
 use std::alloc::{AllocFailed, Global};
 use std::marker::Model;
 
-#[cfg(test)]
-mod tests;
-
 /// Alternatives, of which the newest is tried first. Contracts see their list, oldest first.
 #[derive(Drop)]
 pub struct ChoiceStack<C> {

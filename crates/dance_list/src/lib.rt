@@ -11,6 +11,3 @@ mod loose;
 pub use cells::Node;
 pub use iter::DanceIter;
 pub use list::DanceList;
-
-#[cfg(test)]
-mod tests;

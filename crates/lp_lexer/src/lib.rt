@@ -9,8 +9,6 @@ mod number;
 mod piece;
 mod scan;
 mod symbols;
-#[cfg(test)]
-mod tests;
 mod token;
 mod token_list;
 mod words;

@@ -18,8 +18,6 @@ mod rule_steps;
 mod stack;
 mod state;
 mod term;
-#[cfg(test)]
-mod tests;
 mod token;
 mod type_steps;
 

@@ -36,6 +36,3 @@ pub use static_rule::StaticRule;
 pub use symbols::Symbols;
 pub use trees::{arity_of, constant_of};
 pub use variable::Variable;
-
-#[cfg(test)]
-mod tests;

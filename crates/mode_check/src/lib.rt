@@ -14,6 +14,3 @@ mod variables;
 
 pub use admission::check;
 pub use error::StaticError;
-
-#[cfg(test)]
-mod tests;

@@ -17,6 +17,3 @@ pub use path::{Choice, Path};
 pub use sequence::Sequence;
 pub use sym::Sym;
 pub use tree::{Args, Head, Tree};
-
-#[cfg(test)]
-mod tests;

@@ -9,9 +9,6 @@ ghost use Rattle.std.specs.Prelude.{◌≡◌, [], ◌∷◌, ◌++◌, ◌+◌,
 use std::alloc::{AllocError, Global};
 use std::marker::Model;
 
-#[cfg(test)]
-mod tests;
-
 /// Entries, oldest first, and room for more. Contracts see the list `entries`, and `spare`, how
 /// many entries can be noted before room has to be made.
 #[derive(Drop)]

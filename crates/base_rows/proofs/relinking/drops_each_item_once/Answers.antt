@@ -2,7 +2,7 @@ use Rattle.std.proofs.Common.{◌≡◌, refl, sym, ap, ◌∙◌, [], ◌∷◌
 use Rattle.std.proofs.lemmas.List.{length-map}
 use Rattle.dance_list.specs.Dance.{linked, unlinked, nodes, undone}
 use Rattle.dance_list.proofs.Dances.{same-front, then-last}
-use Rattle.dance_list.proofs.tests.drops_each_item_once.Goals as goal
+use Rattle.base_rows.proofs.relinking.drops_each_item_once.Goals as goal
 
 pub unlink-requires : goal.unlink-requires
 unlink-requires g c =

@@ -1,5 +1,5 @@
 // Each public call once, with ample memory. Expected values are by hand.
-use crate::{
+use lam_io::{
     ByteText, CleanFiles, CleanSink, FailEntry, FailList, FileEntry, FileFail, FileList, Files,
     HostFiles, HostSink, MemFiles, MemSink, Numbers, Sink, SinkFailed,
 };

@@ -1,5 +1,5 @@
 // Each public call once, with ample memory. Expected values are by hand.
-use crate::{Agenda, AgendaMark};
+use agenda::{Agenda, AgendaMark};
 use std::process::Abort;
 use std::test::Fail;
 

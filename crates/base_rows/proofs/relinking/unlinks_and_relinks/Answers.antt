@@ -1,7 +1,7 @@
 use Rattle.std.proofs.Common.{refl, sym, ap, ◌∙◌, [], ◌∷◌, ◌++◌}
 use Rattle.dance_list.specs.Dance.{linked, unlinked}
 use Rattle.dance_list.proofs.Dances.{same-front}
-use Rattle.dance_list.proofs.tests.unlinks_and_relinks.Goals as goal
+use Rattle.base_rows.proofs.relinking.unlinks_and_relinks.Goals as goal
 
 pub unlink-requires : goal.unlink-requires
 unlink-requires g c =

@@ -1,5 +1,5 @@
 // Each public call once, with ample memory. Expected values are by hand.
-use crate::ChoiceStack;
+use choice_stack::ChoiceStack;
 use std::test::Fail;
 
 #[test]

@@ -1,5 +1,5 @@
 // A list through its steps. Expected values are by hand.
-use crate::{DanceList, Node};
+use dance_list::{DanceList, Node};
 use std::alloc::{AllocError, Global};
 use std::cell::Cell;
 use std::test::Fail;

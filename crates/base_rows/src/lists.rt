@@ -1,6 +1,6 @@
 //! Each public function once, with ample memory.
 
-use crate::{Args, Choice, Fault, Head, Path, Sym, Tree};
+use ref_terms::{Args, Choice, Fault, Head, Path, Sym, Tree};
 use sqlite_items::Boxed;
 use std::alloc::AllocError;
 

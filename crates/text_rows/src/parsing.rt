@@ -1,14 +1,12 @@
 //! Trees and refusals of texts, worked by hand.
-use crate::ast::{AstTerm, AstType, Decl, Item, Operator, Place, RuleHead, Word, WordKind};
-use crate::error::{GrammarRule, ParseError};
-use crate::laws::{
-    one_program, one_query, program_deep, program_read, program_unexpected, query_deep, query_read,
-    query_unexpected,
-};
-use crate::parse::{parse_program, parse_query};
-use crate::program::Ast;
+use crate::table::{columns, expect_same};
 use lam_io::ByteText;
 use lp_lexer::tokens;
+use lp_parser::{
+    Ast, AstTerm, AstType, Decl, GrammarRule, Item, Operator, ParseError, Place, RuleHead, Word,
+    WordKind, one_program, one_query, parse_program, parse_query, program_deep, program_read,
+    program_unexpected, query_deep, query_read, query_unexpected,
+};
 use std::alloc::Global;
 use std::test::Fail;
 
@@ -308,20 +306,6 @@ fn repeated(
     }
     text.push_str(end)?;
     Ok(text)
-}
-
-/// The text and what is wanted of it.
-fn columns(line: &str) -> Result<(&str, &str), Fail> {
-    let (text, wanted) = line.split_once('⇒').ok_or("no arrow")?;
-    Ok((text.trim(), wanted.trim()))
-}
-
-fn expect_same(text: &str, shown: &str, wanted: &str) -> Result<(), Fail> {
-    if shown.trim() == wanted {
-        Ok(())
-    } else {
-        Err(Fail::new(format_args!("{text}: {shown}")))
-    }
 }
 
 /// Queries and their trees, each node before its parts, with its place.

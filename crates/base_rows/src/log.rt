@@ -1,6 +1,6 @@
 // Each public call once, with ample memory. Expected values are by hand.
-use crate::{Mark, Trail};
 use std::test::Fail;
+use trail::{Mark, Trail};
 
 #[test]
 fn hands_entries_back_newest_first(rt: HostRuntime) -> Result<(), Fail> {

@@ -1,8 +1,8 @@
 //! Queries, from texts to what they are resolved to, worked by hand.
-use crate::read::resolve_query;
-use crate::symbols::Symbols;
+use crate::table::{columns, expect_same};
 use lp_lexer::tokens;
 use lp_parser::parse_query;
+use lp_resolve::{Symbols, resolve_query};
 use ref_terms::{Head, Sym, Tree};
 use std::alloc::Global;
 use std::test::Fail;
@@ -75,20 +75,6 @@ fn shown_query(alloc: Global, text: &str) -> Result<String, Fail> {
         shown.push_str(piece.as_str())?;
     }
     Ok(shown)
-}
-
-/// The text and what is wanted of it.
-fn columns(line: &str) -> Result<(&str, &str), Fail> {
-    let (text, wanted) = line.split_once('⇒').ok_or("no arrow")?;
-    Ok((text.trim(), wanted.trim()))
-}
-
-fn expect_same(text: &str, shown: &str, wanted: &str) -> Result<(), Fail> {
-    if shown.trim() == wanted {
-        Ok(())
-    } else {
-        Err(Fail::new(format_args!("{text}: {shown}")))
-    }
 }
 
 /// The words of a text have the numbers from 25 on, in the order of their first places.
