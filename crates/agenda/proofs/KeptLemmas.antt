@@ -4,13 +4,13 @@ use Rattle.std.specs.Prelude.{not, nat_le, Option, None, Some, is_some, IfSome}
 use Rattle.std.proofs.lemmas.Bool.{cases_eq, cases_lt, cases_order, cases_Bool, cond-true, cond-false, or_cases, and_parts, or_left, or_right, lt-leb, leb-true, le-leb, ne_eqb, false_from_ne_true}
 use Rattle.std.proofs.lemmas.List.{get_or_default, get_or_past, reverse-append}
 use Rattle.agenda.specs.declared.ranks.Entry.{Entry}
-use Rattle.agenda.specs.Ranks.{IsFirst}
+use Rattle.agenda.specs.inside.Ranks.{IsFirst}
 use Rattle.std.proofs.lemmas.Bool.Decides.{nat_tests}
 use Rattle.agenda.specs.declared.Change.{Change}
 use Rattle.agenda.specs.declared.Change.TheVariants.{Put, Taken}
 use Rattle.agenda.specs.Pairs.{IsOrdered, same, has, put, without}
 use Rattle.agenda.specs.Log.{pairs_after, touched, IsLater, AddsAll, cleared}
-use Rattle.agenda.specs.Kept.{rank_after, IsStepwise, IsKept, puts}
+use Rattle.agenda.specs.inside.Kept.{rank_after, IsStepwise, IsKept, puts}
 use Rattle.agenda.proofs.PairLemmas.{has-put, has-without, ordered-put, ordered-without, length-put, length-without, first-is, none-is, same-true, same-refl}
 
 pub ordered_after : (log : List Change) → IsOrdered (pairs_after log)

@@ -4,7 +4,7 @@ use Rattle.std.proofs.lemmas.List.{length-map, get_or-drop, get_or-map, drop-set
 use Rattle.std.proofs.lemmas.Bool.{cases_eq, cases_lt, cases_order}
 use Rattle.std.proofs.lemmas.Bool.Decides.{nat_tests}
 use Rattle.agenda.specs.declared.ranks.Entry.{Entry}
-use Rattle.agenda.specs.Ranks.{IsNoLater, IsFirst, IsInner, IsTree, earlier, node, ranks_of}
+use Rattle.agenda.specs.inside.Ranks.{IsNoLater, IsFirst, IsInner, IsTree, earlier, node, ranks_of}
 
 -- the earlier of two entries comes before both, and is one of them
 pub earlier-left : (a b : Entry) → IsNoLater (earlier a b) a

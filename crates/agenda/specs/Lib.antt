@@ -1,4 +1,3 @@
-pub mod Ranks
-pub mod Pairs
 pub mod Log
-pub mod Kept
+pub mod Pairs
+pub mod inside

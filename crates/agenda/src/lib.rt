@@ -5,7 +5,7 @@
 ghost use Rattle.std.specs.Prelude.{◌≡◌, ℕ, ◌+◌, ◌*◌, ◌-◌, ◌<◌, ◌≤◌, ◌↔◌, [], List, ◌∷◌, length, reverse, OnOk, OnErr, IsNone, IfNone, IfOk, IfSome, vec_len, vec_capacity};
 ghost use Rattle.agenda.specs.Pairs.{IsOrdered};
 ghost use Rattle.agenda.specs.Log.{pairs_of, oldest, IsLater, touched, AddsAll, cleared};
-ghost use Rattle.agenda.specs.Kept.{puts};
+ghost use Rattle.agenda.specs.inside.Kept.{puts};
 
 use ranks::Ranks;
 use std::alloc::{AllocError, Global};
@@ -44,7 +44,7 @@ pub struct Agenda {
 impl Model for Agenda {
     ghost use Rattle.std.specs.Prelude.{reverse, vec_capacity};
     ghost use Rattle.agenda.specs.Log.{Changes};
-    ghost use Rattle.agenda.specs.Kept.{IsKept};
+    ghost use Rattle.agenda.specs.inside.Kept.{IsKept};
 
     ghost Value = { Changes };
 

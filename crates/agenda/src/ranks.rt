@@ -1,6 +1,6 @@
 //! A list of ranks whose first least one is at hand.
 ghost use Rattle.std.specs.Prelude.{◌≡◌, ℕ, ◌+◌, ◌*◌, ◌/◌, ◌<◌, ◌≤◌, ◌≢◌, ◌↔◌, [], List, length, drop, slice_index, slice_index_or, slice_set, OnOk, OnErr, IsNone, IfSome, IfOk};
-ghost use Rattle.agenda.specs.Ranks.{IsFirst, IsInner, earlier, IsTree, ranks_of};
+ghost use Rattle.agenda.specs.inside.Ranks.{IsFirst, IsInner, earlier, IsTree, ranks_of};
 
 use std::alloc::{AllocError, Global};
 use std::marker::Model;
@@ -15,7 +15,7 @@ pub(crate) struct Ranks {
 
 impl Model for Ranks {
     ghost use Rattle.std.specs.Prelude.{List, ℕ, drop};
-    ghost use Rattle.agenda.specs.Ranks.{IsTree, ranks_of};
+    ghost use Rattle.agenda.specs.inside.Ranks.{IsTree, ranks_of};
 
     ghost Value = { List ℕ };
 

@@ -3,7 +3,7 @@ use Rattle.std.proofs.Common.{◌≡◌, ℕ, zero, suc, ◌<◌, List, [], ◌�
 use Rattle.std.specs.Prelude.{Option, MatchOption, ⊤}
 use lib.ListN.{set}
 use denote.RawPtr.{Ptr}
-use Rattle.dance_list.specs.Blocks.{nth}
+use Rattle.dance_list.specs.inside.Blocks.{nth}
 use Rattle.dance_list.specs.declared.cells.Node.{Node}
 use Rattle.dance_list.specs.declared.chain.Cell.{Cell}
 use Rattle.dance_list.specs.Dance.{Unlinked, first_of, last_of, Has, IsHere, put, Run, AllKeep, numbers, kept_numbers, Avoids, Apart}

@@ -5,7 +5,7 @@ use Rattle.std.proofs.Common.{drop, Result, Ok, Err, is_err, is_ok, false, OnOk,
 use mathlib.Core.List.{map-append, append_assoc}
 use Rattle.std.specs.Prelude.{Option, MatchOption, ⊤}
 use denote.RawPtr.{Ptr}
-use Rattle.dance_list.specs.Blocks.{nth}
+use Rattle.dance_list.specs.inside.Blocks.{nth}
 use Rattle.dance_list.specs.declared.cells.Node.{Node}
 use Rattle.dance_list.specs.declared.chain.Cell.{Cell}
 use Rattle.dance_list.specs.Dance.{Unlinked, undone, left_by, first_of, last_of, Has, IsHere, Run, AllKeep, numbers, kept_numbers, Avoids, Apart, Numbered, IsDance}

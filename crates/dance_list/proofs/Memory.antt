@@ -19,7 +19,7 @@ use denote.Struct.Lending.{lent_at}
 use Rattle.std.specs.Prelude.{Some}
 use Rattle.std.proofs.mem.Param.{El, R, el_x}
 use Rattle.std.proofs.RcSteps.{word}
-use Rattle.dance_list.specs.Blocks.{nth, block_owns, blocks_own, blocks_lent}
+use Rattle.dance_list.specs.inside.Blocks.{nth, block_owns, blocks_own, blocks_lent}
 use Rattle.dance_list.specs.contracts.cells.Cells as C-type
 use Rattle.dance_list.specs.contracts.cells.Place as P-type
 

@@ -6,7 +6,7 @@ use mathlib.Core.List.{map-append}
 use Rattle.std.specs.Prelude.{◌≢◌}
 use Rattle.std.specs.List.{All, Contains}
 use denote.RawPtr.{Ptr}
-use Rattle.dance_list.specs.Blocks.{nth}
+use Rattle.dance_list.specs.inside.Blocks.{nth}
 use Rattle.dance_list.specs.declared.cells.Node.{Node}
 use Rattle.dance_list.specs.declared.chain.Cell.{Cell}
 use Rattle.dance_list.specs.Dance.{Unlinked, Has, Run, AllKeep, numbers, kept_numbers, Avoids, Apart, Numbered, IsDance, IsEachOnce}

@@ -13,7 +13,7 @@ use denote.Sharing.{ShrLaws}
 use denote.SharingLaws.{beside_shr_laws, nothing_shr_laws}
 use denote.Shares.{Shares-less}
 use denote.Struct.Lending.{lent_at, lent_at_shr_laws, Lends, Lends-lies, Lends-first, Lends-both, Lends-nothing}
-use Rattle.dance_list.specs.Blocks.{frees, block_owns, blocks_own, blocks_lent}
+use Rattle.dance_list.specs.inside.Blocks.{frees, block_owns, blocks_own, blocks_lent}
 
 pub blocks_lent_laws : (R : RattleType) (L : RowLaws R) (cs : List (Ptr × R.Denot)) → ShrLaws (blocks_lent R cs)
 blocks_lent_laws R L [] = nothing_shr_laws

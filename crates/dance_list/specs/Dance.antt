@@ -6,7 +6,7 @@ use denote.RawPtr.{Ptr}
 use denote.Bor.{Bor}
 use Rattle.dance_list.specs.declared.cells.Node.{Node}
 use Rattle.dance_list.specs.declared.chain.Cell.{Cell}
-use Rattle.dance_list.specs.Blocks.{nth}
+use Rattle.dance_list.specs.inside.Blocks.{nth}
 
 -- an unlinked node, its item, and the linked nodes that stood before it and after it when it was unlinked
 abbrev pub Unlinked : Type 0 → Type 0

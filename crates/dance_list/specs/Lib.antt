@@ -1,4 +1,3 @@
 -- What the contracts of the crate cite.
-pub mod Blocks
 pub mod Dance
-pub mod Lends
+pub mod inside

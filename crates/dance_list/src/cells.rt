@@ -2,7 +2,7 @@
 ghost use Rattle.std.specs.Borrow.{sem};
 ghost use Rattle.std.specs.Prelude.{◌≡◌, ℕ, ◌<◌, List, [], ◌∷◌, ◌++◌, Option, Some, None};
 ghost use denote.RawPtr.{Ptr};
-ghost use Rattle.dance_list.specs.Blocks.{nth, blocks_own, blocks_lent};
+ghost use Rattle.dance_list.specs.inside.Blocks.{nth, blocks_own, blocks_lent};
 
 use crate::loose::Loose;
 use std::alloc::Global;
@@ -36,7 +36,7 @@ impl<T> Model for Cells<T> {
 }
 
 impl<T> Cells<T> {
-    ghost use Rattle.dance_list.specs.Lends.{lends_block};
+    ghost use Rattle.dance_list.specs.inside.Lends.{lends_block};
 
     pub(crate) fn new() -> Cells<T>
         ensures { result.blocks ≡ [] }

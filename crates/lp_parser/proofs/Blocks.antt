@@ -15,8 +15,8 @@ use Rattle.lp_parser.specs.declared.item_state.BlockState.{BlockState}
 use Rattle.lp_parser.specs.declared.item_state.BlockState.TheVariants as block
 use Rattle.lp_parser.specs.declared.item_state.Moved.{Moved}
 use Rattle.lp_parser.specs.Rules.{RuleOf, rule, RulesOf, no_rule, rule_and, BlockNames, no_block_name, block_name_and, BlockOf, block}
-use Rattle.lp_parser.specs.RuleMachine.{rule_move}
-use Rattle.lp_parser.specs.ItemMachine.{block_name, between_rules, in_rule, block_move}
+use Rattle.lp_parser.specs.inside.RuleMachine.{rule_move}
+use Rattle.lp_parser.specs.inside.ItemMachine.{block_name, between_rules, in_rule, block_move}
 use Rattle.lp_parser.proofs.Walks.{Moves, rests, moves, Ends, ends, and_moves, one_move, and_ends, moves_within, ends_more, AtMoved, goes_to, is_done}
 use Rattle.lp_parser.proofs.Rules.{rule_ends}
 use Rattle.lp_parser.proofs.RulesSound.{rule_began, RuleHolds, at_start, rule_move_reads}

@@ -24,8 +24,8 @@ use Rattle.lp_parser.specs.declared.item_state.Moved.{Moved}
 use Rattle.lp_parser.specs.declared.item_state.Moved.TheVariants.{To, Done}
 use Rattle.lp_parser.specs.Types.{TypeExp}
 use Rattle.lp_parser.specs.Declarations.{Names, last_name, name_and, KindExp, only_type, type_to, mode_of, Arg, argument, Args, last_arg, arg_and, DeclOf, kind, type, pred_alone, pred}
-use Rattle.lp_parser.specs.TypeMachine.{type_step, type_settled, type_whole}
-use Rattle.lp_parser.specs.DeclMachine.{decl_name, kind_named, in_type, decl_named, kind_type, kind_typed, pred_name, with_mode, pred_mode, pred_named, pred_colon, pred_argument, in_arg_type, decl_move}
+use Rattle.lp_parser.specs.inside.TypeMachine.{type_step, type_settled, type_whole}
+use Rattle.lp_parser.specs.inside.DeclMachine.{decl_name, kind_named, in_type, decl_named, kind_type, kind_typed, pred_name, with_mode, pred_mode, pred_named, pred_colon, pred_argument, in_arg_type, decl_move}
 use Rattle.lp_parser.proofs.Walks.{Steps, stays, steps, Moves, rests, moves, Ends, ends, one_move, and_ends, moves_first, steps_within, AtMoved, goes_to, is_done}
 use Rattle.lp_parser.proofs.Types.{type_goes, TypeHolds, type_begins, type_step_reads, type_whole_reads, type_completes}
 

@@ -25,10 +25,10 @@ use Rattle.lp_parser.specs.Grammar.{Shape, Phrase}
 use Rattle.lp_parser.specs.Declarations.{DeclOf}
 use Rattle.lp_parser.specs.Rules.{BlockOf, block}
 use Rattle.lp_parser.specs.Program.{place_of, ItemOf, declaration, rule_block, clause, Program, no_item, item_and, Query, without_dot, with_dot}
-use Rattle.lp_parser.specs.TermMachine.{step, settled_at, stack_at}
-use Rattle.lp_parser.specs.DeclMachine.{decl_move}
-use Rattle.lp_parser.specs.RuleMachine.{whole}
-use Rattle.lp_parser.specs.ItemMachine.{block_move, in_decl, in_block, ends_clause, in_clause, begins_marked, begins, move, moved, item_step, item_whole, ends_query, in_query, query_step, query_whole}
+use Rattle.lp_parser.specs.inside.TermMachine.{step, settled_at, stack_at}
+use Rattle.lp_parser.specs.inside.DeclMachine.{decl_move}
+use Rattle.lp_parser.specs.inside.RuleMachine.{whole}
+use Rattle.lp_parser.specs.inside.ItemMachine.{block_move, in_decl, in_block, ends_clause, in_clause, begins_marked, begins, move, moved, item_step, item_whole, ends_query, in_query, query_step, query_whole}
 use Rattle.lp_parser.proofs.TermComplete.{Goes, stays, steps, phrase_goes}
 use Rattle.lp_parser.proofs.TermSound.{Holds, at_want, start, step_reads, bottom, bottom_is}
 use Rattle.lp_parser.proofs.TermCompletions.{completes}

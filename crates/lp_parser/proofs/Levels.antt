@@ -5,7 +5,7 @@ use Rattle.lp_parser.specs.declared.ast.Operator.TheVariants.{Implied, Or, Comma
 use Rattle.lp_parser.specs.declared.state.Frame.{Frame}
 use Rattle.lp_parser.specs.declared.state.Frame.TheVariants as frame
 use Rattle.lp_parser.specs.Grammar.{level, left_level, right_level}
-use Rattle.lp_parser.specs.TermMachine.{may_be_open}
+use Rattle.lp_parser.specs.inside.TermMachine.{may_be_open}
 
 -- the level of a phrase that is awaited
 abbrev pub wanted : List Frame → ℕ

@@ -10,7 +10,7 @@ use Rattle.lp_parser.specs.declared.item_state.ItemState.TheVariants.{Between}
 use Rattle.lp_parser.specs.declared.item_state.QueryState.TheVariants.{Term}
 use Rattle.lp_parser.specs.Program.{Program, Query}
 use Rattle.lp_parser.specs.Refusal.{IsUnexpected, IsDeep}
-use Rattle.lp_parser.specs.ItemMachine.{item_step, item_whole, query_step, query_whole}
+use Rattle.lp_parser.specs.inside.ItemMachine.{item_step, item_whole, query_step, query_whole}
 use Rattle.lp_parser.specs.Reading.{Accepted, Unexpected, Deep, HasItems, HasTerm, IsProgram, IsQuery, items_of, term_of}
 use Rattle.lp_parser.proofs.Answers.{one_tree, says_accepted, accepted_said, says_unexpected, unexpected_said, says_deep, deep_said}
 use Rattle.lp_parser.proofs.Items.{reads_programs, reads_queries}

@@ -15,8 +15,8 @@ use Rattle.lp_parser.specs.declared.state.State.TheVariants as state
 use Rattle.lp_parser.specs.declared.item_state.Moved.{Moved}
 use Rattle.lp_parser.specs.declared.item_state.Moved.TheVariants.{To}
 use Rattle.lp_parser.specs.Grammar.{level, Closed, Phrase, quantified}
-use Rattle.lp_parser.specs.TermMachine.{atom_of, joined, attach, settle, settled_at, want, stack_at, may_be_open, infixed, step}
-use Rattle.lp_parser.specs.RuleMachine.{over_test}
+use Rattle.lp_parser.specs.inside.TermMachine.{atom_of, joined, attach, settle, settled_at, want, stack_at, may_be_open, infixed, step}
+use Rattle.lp_parser.specs.inside.RuleMachine.{over_test}
 use Rattle.lp_parser.proofs.Levels.{wanted, level_eight}
 use Rattle.lp_parser.proofs.TermComplete.{Goes, stays, steps, test_goes}
 use Rattle.lp_parser.proofs.TermSound.{Reading, start, start_test, left, in_body, in_quantified, in_group, in_list, in_tail, Holds, at_want, at_quantifier, at_have, at_words, bottom, bottom_is, test_reads}

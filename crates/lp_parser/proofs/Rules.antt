@@ -22,8 +22,8 @@ use Rattle.lp_parser.specs.declared.item_state.RuleState.{RuleState}
 use Rattle.lp_parser.specs.declared.item_state.Moved.TheVariants.{Done}
 use Rattle.lp_parser.specs.Grammar.{Shape, Phrase}
 use Rattle.lp_parser.specs.Rules.{Head, goal_alone, goal_in_context, HeadList, last_head, head_and, Heads, all_kept, some_removed, all_removed, pair, PairList, last_pair, pair_and, Pairs, no_pairs, pairs, TestList, last_test, test_and, Tests, no_tests, tests, Body, no_body, body}
-use Rattle.lp_parser.specs.TermMachine.{settled_at, step}
-use Rattle.lp_parser.specs.RuleMachine.{empty_rule, to, with_head, with_pair, with_test, whole, over_test, head_begins, head_ends, in_head, ends_test, in_test, ends_body, in_body, rule_move}
+use Rattle.lp_parser.specs.inside.TermMachine.{settled_at, step}
+use Rattle.lp_parser.specs.inside.RuleMachine.{empty_rule, to, with_head, with_pair, with_test, whole, over_test, head_begins, head_ends, in_head, ends_test, in_test, ends_body, in_body, rule_move}
 use Rattle.lp_parser.proofs.TermComplete.{Goes, phrase_goes, closing_settled}
 use Rattle.lp_parser.proofs.Walks.{Moves, rests, moves, Ends, ends, and_moves, one_move, and_ends, moves_first}
 use Rattle.lp_parser.proofs.RuleTests.{goes_within, no_infix, test_over}

@@ -18,8 +18,8 @@ use Rattle.lp_parser.specs.declared.item_state.RulePlace.{RulePlace}
 use Rattle.lp_parser.specs.declared.item_state.RulePlace.TheVariants as at
 use Rattle.lp_parser.specs.declared.item_state.RuleState.{RuleState}
 use Rattle.lp_parser.specs.declared.item_state.Moved.TheVariants.{To, Done}
-use Rattle.lp_parser.specs.TermMachine.{settled_at, stack_at}
-use Rattle.lp_parser.specs.RuleMachine.{with_head, with_test, with_body, whole, over_test, head_ends, in_head, ends_test, in_test, ends_body, in_body, rule_move}
+use Rattle.lp_parser.specs.inside.TermMachine.{settled_at, stack_at}
+use Rattle.lp_parser.specs.inside.RuleMachine.{with_head, with_test, with_body, whole, over_test, head_ends, in_head, ends_test, in_test, ends_body, in_body, rule_move}
 use Rattle.lp_parser.proofs.TermComplete.{Goes, stays, steps}
 use Rattle.lp_parser.proofs.TermSound.{Holds, step_reads, bottom, bottom_is}
 use Rattle.lp_parser.proofs.TermCompletions.{completes}

@@ -24,8 +24,8 @@ use Rattle.lp_parser.specs.declared.item_state.RuleState.{RuleState}
 use Rattle.lp_parser.specs.declared.item_state.Moved.{Moved}
 use Rattle.lp_parser.specs.Grammar.{Shape, Closed, Phrase}
 use Rattle.lp_parser.specs.Rules.{Head, goal_alone, goal_in_context, HeadList, last_head, head_and, Heads, all_kept, some_removed, all_removed, Pair, pair, PairList, last_pair, pair_and, Pairs, no_pairs, pairs, TestList, last_test, test_and, Tests, no_tests, tests, Body, no_body, body, RuleOf, rule}
-use Rattle.lp_parser.specs.TermMachine.{settled_at, step}
-use Rattle.lp_parser.specs.RuleMachine.{empty_rule, with_head, whole, over_test, alone, behind_tests, behind_pairs, behind_heads, rule_start, divided, behind_head, head_ends, context_ends, ends_head, in_head, pair_left, pair_tilde, pair_right, paired, tested, ends_test, in_test, ends_body, in_body, rule_move}
+use Rattle.lp_parser.specs.inside.TermMachine.{settled_at, step}
+use Rattle.lp_parser.specs.inside.RuleMachine.{empty_rule, with_head, whole, over_test, alone, behind_tests, behind_pairs, behind_heads, rule_start, divided, behind_head, head_ends, context_ends, ends_head, in_head, pair_left, pair_tilde, pair_right, paired, tested, ends_test, in_test, ends_body, in_body, rule_move}
 use Rattle.lp_parser.proofs.TermSound.{Holds, at_want, at_quantifier, at_have, at_words, start, start_test, nothing, arguments, quantified_by, a_word, grouped, plain, step_reads, settled_reads, term_bottom}
 use Rattle.lp_parser.proofs.Walks.{AtMoved, goes_to, is_done}
 use Rattle.lp_parser.proofs.RuleTests.{over_reads}

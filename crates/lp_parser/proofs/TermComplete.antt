@@ -21,7 +21,7 @@ use Rattle.lp_parser.specs.declared.state.Frame.TheVariants as frame
 use Rattle.lp_parser.specs.declared.state.State.{State}
 use Rattle.lp_parser.specs.declared.state.State.TheVariants as state
 use Rattle.lp_parser.specs.Grammar.{level, left_level, right_level, literal_term, Shape, Closed, Open, Words, last_word, word_and, Phrase, tighter, infix_of, alone, applied, applied_binder, binder, quantifier_of, quantifier_body, Binder, binds, Simple, word, group, Atom, simple, literal_of, empty_list, list_of, list_with_tail, Elements, last_element, element_and, Atoms, no_atom, atom_and}
-use Rattle.lp_parser.specs.TermMachine.{atom_of, joined, front_after, onto, attach, settle, settled_at, closed, closing, closed_at, want, atom, opened, opened_list, front_at, stack_at, may_be_open, second_word, worded, body, infixed, step}
+use Rattle.lp_parser.specs.inside.TermMachine.{atom_of, joined, front_after, onto, attach, settle, settled_at, closed, closing, closed_at, want, atom, opened, opened_list, front_at, stack_at, may_be_open, second_word, worded, body, infixed, step}
 use Rattle.lp_parser.proofs.Levels.{wanted, level_eight, level_left, level_right, apart}
 
 -- From q the machine comes over the lexemes u to z, with v left.

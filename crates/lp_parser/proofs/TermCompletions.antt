@@ -15,7 +15,7 @@ use Rattle.lp_parser.specs.declared.state.Frame.TheVariants as frame
 use Rattle.lp_parser.specs.declared.state.State.{State}
 use Rattle.lp_parser.specs.declared.state.State.TheVariants as state
 use Rattle.lp_parser.specs.Grammar.{quantified}
-use Rattle.lp_parser.specs.TermMachine.{atom_of, joined, settle, settled_at, stack_at}
+use Rattle.lp_parser.specs.inside.TermMachine.{atom_of, joined, settle, settled_at, stack_at}
 use Rattle.lp_parser.proofs.TermComplete.{Goes, stays, steps, closing_settled}
 use Rattle.lp_parser.proofs.TermSound.{bottom}
 

@@ -23,7 +23,7 @@ use Rattle.lp_parser.specs.declared.state.Frame.TheVariants as frame
 use Rattle.lp_parser.specs.declared.state.State.{State}
 use Rattle.lp_parser.specs.declared.state.State.TheVariants as state
 use Rattle.lp_parser.specs.Grammar.{level, left_level, right_level, literal_term, Shape, Closed, Open, quantified, Words, last_word, word_and, Phrase, tighter, infix_of, alone, applied, applied_binder, binder, quantifier_of, quantifier_body, binds, Simple, word, group, Atom, simple, literal_of, empty_list, list_of, list_with_tail, Elements, last_element, element_and, Atoms, no_atom, atom_and}
-use Rattle.lp_parser.specs.TermMachine.{atom_of, joined, front_after, separated, onto, attach, settle, settled_at, close, closed, closing, close_empty, want, atom, opened, opened_list, front_at, stack_at, may_be_open, second_bound, second_word, worded, body_frame, body, bound, quantifier, infixed, step}
+use Rattle.lp_parser.specs.inside.TermMachine.{atom_of, joined, front_after, separated, onto, attach, settle, settled_at, close, closed, closing, close_empty, want, atom, opened, opened_list, front_at, stack_at, may_be_open, second_bound, second_word, worded, body_frame, body, bound, quantifier, infixed, step}
 use Rattle.lp_parser.proofs.Levels.{wanted, one_level, level_eight, wanted_nine, may_open}
 use Rattle.lp_parser.proofs.TermComplete.{MayBind}
 

@@ -20,7 +20,7 @@ use Rattle.lp_parser.specs.declared.item_state.TypeFront.TheVariants.{Named, Who
 use Rattle.lp_parser.specs.declared.item_state.TypeState.{TypeState}
 use Rattle.lp_parser.specs.declared.item_state.TypeState.TheVariants.{Want, Have}
 use Rattle.lp_parser.specs.Types.{TypeWord, type_name, type_variable, TypeExp, no_arrow, arrow, TypeApp, named, app_in_brackets, TypeAtom, word_alone, atom_in_brackets, TypeAtoms, no_type_atom, type_atom_and}
-use Rattle.lp_parser.specs.TypeMachine.{type_word, type_of, type_settle, type_settled, type_close, type_closed, type_closing, with_type_word, type_worded, type_opened, type_arrow, type_closer, type_marked, type_step, type_whole}
+use Rattle.lp_parser.specs.inside.TypeMachine.{type_word, type_of, type_settle, type_settled, type_close, type_closed, type_closing, with_type_word, type_worded, type_opened, type_arrow, type_closer, type_marked, type_step, type_whole}
 use Rattle.lp_parser.proofs.Walks.{Steps, stays, steps, and_steps}
 
 -- the machine's way

@@ -15,7 +15,7 @@ use Rattle.lp_parser.specs.Lexemes.{lexemes_of}
 use Rattle.lp_parser.specs.Program.{Program, Query}
 use Rattle.lp_parser.specs.Nesting.{Nesting, flat, nested, IsShallow}
 use Rattle.lp_parser.specs.Refusal.{rule_after}
-use Rattle.lp_parser.specs.ItemMachine.{item_step, item_whole, query_step, query_whole}
+use Rattle.lp_parser.specs.inside.ItemMachine.{item_step, item_whole, query_step, query_whole}
 
 -- What is read: the tree, or where the lexemes are refused.
 pub data Outcome (A : Type 0) : Type 0 where

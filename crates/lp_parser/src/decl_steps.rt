@@ -1,8 +1,8 @@
 //! Reads declarations from the left, behind their first word.
 ghost use Rattle.std.specs.Prelude.{◌≡◌, [], ◌∷◌, ◌++◌, IfOk, Some, None, Bool, option_map};
 ghost use Rattle.lp_parser.specs.Declarations.{mode_of};
-ghost use Rattle.lp_parser.specs.DeclMachine.{decl_name, kind_named, in_type, decl_named, kind_type, kind_typed, pred_name, with_mode, pred_mode, pred_named, pred_colon, pred_argument, pred_typed, in_arg_type, decl_move};
-ghost use Rattle.lp_parser.specs.TypeMachine.{type_step, type_settled, type_whole};
+ghost use Rattle.lp_parser.specs.inside.DeclMachine.{decl_name, kind_named, in_type, decl_named, kind_type, kind_typed, pred_name, with_mode, pred_mode, pred_named, pred_colon, pred_argument, pred_typed, in_arg_type, decl_move};
+ghost use Rattle.lp_parser.specs.inside.TypeMachine.{type_step, type_settled, type_whole};
 
 use crate::ast::{AstArg, AstArgs, AstType, Decl, Operator, Word, WordKind, Words};
 use crate::item_state::{DeclState, Given, Moved, TypeState};

@@ -1,10 +1,10 @@
 //! Reads items and queries from the left.
 ghost use Rattle.std.specs.Prelude.{◌≡◌, [], ◌∷◌, ◌++◌, IfOk, Some, None, option_map};
 ghost use Rattle.lp_parser.specs.Program.{place_of};
-ghost use Rattle.lp_parser.specs.TermMachine.{step, settled_at};
-ghost use Rattle.lp_parser.specs.RuleMachine.{empty_rule, whole, rule_move};
-ghost use Rattle.lp_parser.specs.DeclMachine.{decl_move};
-ghost use Rattle.lp_parser.specs.ItemMachine.{block_name, between_rules, in_rule, block_move, in_decl, in_block, ends_clause, in_clause, begins_marked, begins, move, moved, ends_query, in_query, query_step, query_whole};
+ghost use Rattle.lp_parser.specs.inside.TermMachine.{step, settled_at};
+ghost use Rattle.lp_parser.specs.inside.RuleMachine.{empty_rule, whole, rule_move};
+ghost use Rattle.lp_parser.specs.inside.DeclMachine.{decl_move};
+ghost use Rattle.lp_parser.specs.inside.ItemMachine.{block_name, between_rules, in_rule, block_move, in_decl, in_block, ends_clause, in_clause, begins_marked, begins, move, moved, ends_query, in_query, query_step, query_whole};
 
 use crate::ast::{
     AstTerm, Block, Clause, Decl, Item, Place, Rule, RuleList, Word, WordKind, Words,

@@ -1,6 +1,6 @@
 //! Reads programs and queries.
 ghost use Rattle.std.specs.Prelude.{◌≡◌, Option, IfOk, IfErr};
-ghost use Rattle.lp_parser.specs.ItemMachine.{item_step, item_whole, query_step, query_whole};
+ghost use Rattle.lp_parser.specs.inside.ItemMachine.{item_step, item_whole, query_step, query_whole};
 ghost use Rattle.lp_parser.specs.Reading.{Accepted, IsRefusal, program_of, query_of};
 
 use crate::ast::{AstGoal, AstTerm};

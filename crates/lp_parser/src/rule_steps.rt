@@ -1,7 +1,7 @@
 //! Reads rules from the left, behind their `rule`.
 ghost use Rattle.std.specs.Prelude.{◌≡◌, [], ◌∷◌, ◌++◌, IfOk, Some, None};
-ghost use Rattle.lp_parser.specs.TermMachine.{step, settled_at, closing, infixed, at_test};
-ghost use Rattle.lp_parser.specs.RuleMachine.{to, with_head, with_pair, with_test, with_body, whole, over_test, alone, behind_tests, behind_pairs, behind_heads, head_begins, rule_start, divided, behind_kept, behind_removed, behind_head, head_ends, context_ends, ends_head, in_head, pair_left, pair_tilde, pair_right, paired, tested, ends_test, in_test, ends_body, in_body, rule_move_at, rule_move};
+ghost use Rattle.lp_parser.specs.inside.TermMachine.{step, settled_at, closing, infixed, at_test};
+ghost use Rattle.lp_parser.specs.inside.RuleMachine.{to, with_head, with_pair, with_test, with_body, whole, over_test, alone, behind_tests, behind_pairs, behind_heads, head_begins, rule_start, divided, behind_kept, behind_removed, behind_head, head_ends, context_ends, ends_head, in_head, pair_left, pair_tilde, pair_right, paired, tested, ends_test, in_test, ends_body, in_body, rule_move_at, rule_move};
 
 use crate::ast::{AstTerm, Operator, Place, Rule, RuleHead, Word, WordKind, WordPair};
 use crate::item_state::{Moved, RulePlace, RuleState, Side};

@@ -1,7 +1,7 @@
 //! Reads terms from the left, and keeps the phrases that are not over on a stack.
 ghost use Rattle.std.specs.Prelude.{◌≡◌, [], ◌∷◌, ◌++◌, IfOk, option_map, Some, None};
 ghost use Rattle.lp_parser.specs.Grammar.{level, left_level, right_level, literal_term, quantified};
-ghost use Rattle.lp_parser.specs.TermMachine.{atom_of, joined, front_after, separated, onto, attach, settle, settled_at, close, at_once, closing, atom, opened, opened_list, front_at, stack_at, may_be_open, second_bound, second_word, worded, body_frame, body, bound, quantifier, infixed, step, atom_place};
+ghost use Rattle.lp_parser.specs.inside.TermMachine.{atom_of, joined, front_after, separated, onto, attach, settle, settled_at, close, at_once, closing, atom, opened, opened_list, front_at, stack_at, may_be_open, second_bound, second_word, worded, body_frame, body, bound, quantifier, infixed, step, atom_place};
 
 use crate::ast::{AstTerm, AstTerms, Operator, Place, Word, WordKind, Words};
 use crate::lexeme::{Closer, Lexeme, Literal};

@@ -1,6 +1,6 @@
 //! Reads types from the left, and keeps the phrases that are not over on a stack.
 ghost use Rattle.std.specs.Prelude.{◌≡◌, [], ◌∷◌, ◌++◌, IfOk, Some, None};
-ghost use Rattle.lp_parser.specs.TypeMachine.{type_word, type_of, type_settle, type_settled, type_close, type_closing, type_closer, with_type_word, type_worded, type_opened, type_arrow, type_marked, type_step, type_whole};
+ghost use Rattle.lp_parser.specs.inside.TypeMachine.{type_word, type_of, type_settle, type_settled, type_close, type_closing, type_closer, with_type_word, type_worded, type_opened, type_arrow, type_marked, type_step, type_whole};
 
 use crate::ast::{AstType, Place, Word, WordKind};
 use crate::item_state::{TypeFrame, TypeFront, TypeState};

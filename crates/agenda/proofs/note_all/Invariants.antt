@@ -1,5 +1,5 @@
 use Rattle.std.proofs.Common.{◌≡◌, ◌+◌, ◌≤◌, reverse, vec_len, vec_capacity}
-use Rattle.agenda.specs.Kept.{puts}
+use Rattle.agenda.specs.inside.Kept.{puts}
 use Rattle.agenda.proofs.note_all.Given as goal
 
 abbrev pub invariant-loop-rule : goal.invariant-loop-rule

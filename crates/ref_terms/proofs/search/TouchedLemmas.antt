@@ -198,9 +198,10 @@ Free has bs a = Every (λ b. has b.variable a ≡ false) bs
 
 free-of-list : {A : Type 0} (has : ℕ → A → Bool) (bs : List Binding) (xs : List A) → Every (λ b. list_any (has b.variable) xs ≡ false) bs → Every (Free has bs) xs
 free-of-list has bs [] w = tt
-free-of-list has bs (x ∷ xs) w =
-    (every-weaker (λ b. list_any (has b.variable) (x ∷ xs) ≡ false) (λ b. has b.variable x ≡ false) (λ b e. or-left (has b.variable x) (list_any (has b.variable) xs) e) bs w,
-    free-of-list has bs xs (every-weaker (λ b. list_any (has b.variable) (x ∷ xs) ≡ false) (λ b. list_any (has b.variable) xs ≡ false) (λ b e. or-right (has b.variable x) (list_any (has b.variable) xs) e) bs w))
+free-of-list has bs (x ∷ xs) w = (
+  every-weaker (λ b. list_any (has b.variable) (x ∷ xs) ≡ false) (λ b. has b.variable x ≡ false) (λ b e. or-left (has b.variable x) (list_any (has b.variable) xs) e) bs w,
+  free-of-list has bs xs (every-weaker (λ b. list_any (has b.variable) (x ∷ xs) ≡ false) (λ b. list_any (has b.variable) xs ≡ false) (λ b e. or-right (has b.variable x) (list_any (has b.variable) xs) e) bs w),
+)
 
 terms-absent : (bs : List Binding) (ts : List Term) → Every IsBuilt ts → Every (Free occurs bs) ts → map (bound bs) ts ≡ ts
 terms-absent bs ts u w = each-kept (λ t. IsBuilt t × Free occurs bs t) (bound bs) (λ t z. bound-absent bs t z.0 z.1) ts
@@ -209,7 +210,7 @@ terms-absent bs ts u w = each-kept (λ t. IsBuilt t × Free occurs bs t) (bound 
 assumption-absent : (bs : List Binding) (h : Assumption) → AssumptionBuilt h → Free assumption_has bs h → bound_assumption bs h ≡ h
 assumption-absent bs h u w =
     let both : Every (λ b. (occurs b.variable h.head || list_any (occurs b.variable) h.conditions) ≡ false) bs =
-        every-weaker _ _ (λ b e. or-left (occurs b.variable h.head || list_any (occurs b.variable) h.conditions) (occurs b.variable h.assumed) e) bs w in
+    every-weaker _ _ (λ b e. or-left (occurs b.variable h.head || list_any (occurs b.variable) h.conditions) (occurs b.variable h.assumed) e) bs w in
     let heads : Every (λ b. occurs b.variable h.head ≡ false) bs = every-weaker _ _ (λ b e. or-left (occurs b.variable h.head) (list_any (occurs b.variable) h.conditions) e) bs both in
     let conditions : Every (λ b. list_any (occurs b.variable) h.conditions ≡ false) bs = every-weaker _ _ (λ b e. or-right (occurs b.variable h.head) (list_any (occurs b.variable) h.conditions) e) bs both in
     let assumed : Every (λ b. occurs b.variable h.assumed ≡ false) bs = every-weaker _ _ (λ b e. or-right (occurs b.variable h.head || list_any (occurs b.variable) h.conditions) (occurs b.variable h.assumed) e) bs w in
@@ -219,7 +220,7 @@ pub untouched-stays : (bs : List Binding) (c : Constraint) → ConstraintBuilt c
 untouched-stays bs c u e =
     let w : Free constraint_has bs c = any-not (λ b. constraint_has b.variable c) bs e in
     let both : Every (λ b. (list_any (assumption_has b.variable) c.assumptions || occurs b.variable c.term) ≡ false) bs =
-        every-weaker _ _ (λ b z. or-left (list_any (assumption_has b.variable) c.assumptions || occurs b.variable c.term) (list_any (occurs b.variable) c.keys) z) bs w in
+    every-weaker _ _ (λ b z. or-left (list_any (assumption_has b.variable) c.assumptions || occurs b.variable c.term) (list_any (occurs b.variable) c.keys) z) bs w in
     let hs : Every (λ b. list_any (assumption_has b.variable) c.assumptions ≡ false) bs = every-weaker _ _ (λ b z. or-left (list_any (assumption_has b.variable) c.assumptions) (occurs b.variable c.term) z) bs both in
     let t : Every (λ b. occurs b.variable c.term ≡ false) bs = every-weaker _ _ (λ b z. or-right (list_any (assumption_has b.variable) c.assumptions) (occurs b.variable c.term) z) bs both in
     let ks : Every (λ b. list_any (occurs b.variable) c.keys ≡ false) bs = every-weaker _ _ (λ b z. or-right (list_any (assumption_has b.variable) c.assumptions || occurs b.variable c.term) (list_any (occurs b.variable) c.keys) z) bs w in
@@ -275,12 +276,13 @@ module _ (unify : Unification) (fair : IsFair unify) (branch : Branch) (bs : Lis
 
   pub touched-after-bindings : Every IsTold branch.store → (place : ℕ) (rs : List Rule) → place + length rs ≤ count → AllTouched unify branch pairs place rs → AllTouched unify (bound_branch bs n branch) more place rs
   touched-after-bindings told place [] low w = tt
-  touched-after-bindings told place (r ∷ rs) low w =
-      (subst (λ (css : List (List Constraint)). Every (IsLeftOut unify (bound_branch bs n branch) more place r) css) (sym (tuples-changed (bound_constraint bs) (heads_of r) branch.store))
-      (every-mapped (IsLeftOut unify (bound_branch bs n branch) more place r) (map (bound_constraint bs)) (tuples (heads_of r) branch.store)
-      (every-both (IsLeftOut unify branch pairs place r) (Every IsTold) (λ cs. IsLeftOut unify (bound_branch bs n branch) more place r (map (bound_constraint bs) cs))
-      (left-out-stays place (omega arith) r) (tuples (heads_of r) branch.store) w.0 (every-tuple IsTold (heads_of r) branch.store told))),
-      touched-after-bindings told (suc place) rs (omega arith) w.1)
+  touched-after-bindings told place (r ∷ rs) low w = (
+    subst (λ (css : List (List Constraint)). Every (IsLeftOut unify (bound_branch bs n branch) more place r) css) (sym (tuples-changed (bound_constraint bs) (heads_of r) branch.store))
+        (every-mapped (IsLeftOut unify (bound_branch bs n branch) more place r) (map (bound_constraint bs)) (tuples (heads_of r) branch.store)
+        (every-both (IsLeftOut unify branch pairs place r) (Every IsTold) (λ cs. IsLeftOut unify (bound_branch bs n branch) more place r (map (bound_constraint bs) cs))
+        (left-out-stays place (omega arith) r) (tuples (heads_of r) branch.store) w.0 (every-tuple IsTold (heads_of r) branch.store told))),
+    touched-after-bindings told (suc place) rs (omega arith) w.1,
+  )
 
 -- the first instance is among the tuples that hold a pair
 first-tuple-touched : (unify : Unification) (branch : Branch) (pairs : Pairs) (place : ℕ) (r : Rule) (css : List (List Constraint)) → Every (IsLeftOut unify branch pairs place r) css
@@ -304,9 +306,10 @@ every-all P h (x ∷ xs) = (h x, every-all P h xs)
 -- one more constraint, last in the store: each tuple has it, or is one of the others
 picks-added : (G : Constraint × List Constraint → Type 0) (c : Constraint) → ((d : Constraint) (ds : List Constraint) → G (d, ds) → G (d, ds ++ c ∷ [])) → (before cs : List Constraint) → G (c, before ++ cs) → Every G (picks before cs) → Every G (picks before (cs ++ c ∷ []))
 picks-added G c longer before [] new w = (new, tt)
-picks-added G c longer before (d ∷ ds) new w =
-    (subst (λ (z : List Constraint). G (d, z)) (append_assoc before ds (c ∷ [])) (longer d (before ++ ds) w.0),
-    picks-added G c longer (before ++ d ∷ []) ds (subst (λ (z : List Constraint). G (c, z)) (sym (append_assoc before (d ∷ []) ds)) new) w.1)
+picks-added G c longer before (d ∷ ds) new w = (
+  subst (λ (z : List Constraint). G (d, z)) (append_assoc before ds (c ∷ [])) (longer d (before ++ ds) w.0),
+  picks-added G c longer (before ++ d ∷ []) ds (subst (λ (z : List Constraint). G (c, z)) (sym (append_assoc before (d ∷ []) ds)) new) w.1,
+)
 
 module _ (E : List Constraint → Type 0) (c : Constraint) (here : (cs : List Constraint) → E (c ∷ cs)) (there : (d : Constraint) (cs : List Constraint) → E cs → E (d ∷ cs)) where
   tuples-added : {H : Type 0} (hs : List H) (P : List Constraint → Type 0) → ((cs : List Constraint) → E cs → P cs) → (store : List Constraint) → Every P (tuples hs store) → Every P (tuples hs (store ++ c ∷ []))
@@ -323,11 +326,12 @@ pub touched-after-adding : (unify : Unification) (branch : Branch) (pairs more :
     → ((place : ℕ) → place < count → more place c.number ≡ true) → (place : ℕ) (rs : List Rule) → place + length rs ≤ count
     → AllTouched unify branch pairs place rs → AllTouched unify (record branch { store = branch.store ++ c ∷ [] }) more place rs
 touched-after-adding unify branch pairs more c count keeps new place [] low w = tt
-touched-after-adding unify branch pairs more c count keeps new place (r ∷ rs) low w =
-    (tuples-added (λ cs. holds_pair more place cs ≡ true) c (λ cs. or-first (more place c.number) (holds_pair more place cs) (new place (omega arith))) (λ d cs e. or-true (more place d.number) (holds_pair more place cs) e)
-    (heads_of r) (IsLeftOut unify branch more place r) (λ cs e f. not-both (holds_pair more place cs) e f) branch.store
-    (every-weaker (IsLeftOut unify branch pairs place r) (IsLeftOut unify branch more place r) (λ cs u e. u (fewer-pairs pairs more keeps place cs e)) (tuples (heads_of r) branch.store) w.0),
-    touched-after-adding unify branch pairs more c count keeps new (suc place) rs (omega arith) w.1)
+touched-after-adding unify branch pairs more c count keeps new place (r ∷ rs) low w = (
+  tuples-added (λ cs. holds_pair more place cs ≡ true) c (λ cs. or-first (more place c.number) (holds_pair more place cs) (new place (omega arith))) (λ d cs e. or-true (more place d.number) (holds_pair more place cs) e)
+      (heads_of r) (IsLeftOut unify branch more place r) (λ cs e f. not-both (holds_pair more place cs) e f) branch.store
+      (every-weaker (IsLeftOut unify branch pairs place r) (IsLeftOut unify branch more place r) (λ cs u e. u (fewer-pairs pairs more keeps place cs e)) (tuples (heads_of r) branch.store) w.0),
+  touched-after-adding unify branch pairs more c count keeps new (suc place) rs (omega arith) w.1,
+)
   where
     or-first : (a b : Bool) → a ≡ true → (a || b) ≡ true
     or-first true b e = refl
@@ -347,8 +351,10 @@ module _ (g : Constraint → Bool) where
   picks-filtered G fewer before (d ∷ ds) w = go (g d) refl (picks-filtered G fewer (before ++ d ∷ []) ds w.1)
     where
       go : (b : Bool) → g d ≡ b → Every G (picks (filter g (before ++ d ∷ [])) (filter g ds)) → Every G (picks (filter g before) (filter g (d ∷ ds)))
-      go true e u = rw e (subst (λ (z : List Constraint). G (d, z)) (filter-append g before ds) (fewer d (before ++ ds) w.0),
-          subst (λ (z : List Constraint). Every G (picks z (filter g ds))) (filter-last before d true e) u)
+      go true e u = rw e (
+        subst (λ (z : List Constraint). G (d, z)) (filter-append g before ds) (fewer d (before ++ ds) w.0),
+        subst (λ (z : List Constraint). Every G (picks z (filter g ds))) (filter-last before d true e) u,
+      )
       go false e u = rw e (subst (λ (z : List Constraint). Every G (picks z (filter g ds))) (filter-last before d false e ∙ no-more (filter g before)) u)
 
   tuples-filtered : {H : Type 0} (hs : List H) (P : List Constraint → Type 0) (store : List Constraint) → Every P (tuples hs store) → Every P (tuples hs (filter g store))
@@ -365,18 +371,20 @@ touched-after-leaving unify branch pairs g place (r ∷ rs) w = (tuples-filtered
 
 pub touched-after-firing : (unify : Unification) (branch : Branch) (pairs : Pairs) (f : Fired) (place : ℕ) (rs : List Rule) → AllTouched unify branch pairs place rs → AllTouched unify (record branch { fired = branch.fired ++ f ∷ [] }) pairs place rs
 touched-after-firing unify branch pairs f place [] w = tt
-touched-after-firing unify branch pairs f place (r ∷ rs) w =
-    (every-weaker (IsLeftOut unify branch pairs place r) (IsLeftOut unify (record branch { fired = branch.fired ++ f ∷ [] }) pairs place r) (λ cs u e. refused-when-fired unify branch f place r cs (u e)) (tuples (heads_of r) branch.store) w.0,
-    touched-after-firing unify branch pairs f (suc place) rs w.1)
+touched-after-firing unify branch pairs f place (r ∷ rs) w = (
+  every-weaker (IsLeftOut unify branch pairs place r) (IsLeftOut unify (record branch { fired = branch.fired ++ f ∷ [] }) pairs place r) (λ cs u e. refused-when-fired unify branch f place r cs (u e)) (tuples (heads_of r) branch.store) w.0,
+  touched-after-firing unify branch pairs f (suc place) rs w.1,
+)
 
 -- a dropped pair: where all tuples that hold it are refused
 pub touched-after-dropping : (unify : Unification) (branch : Branch) (pairs fewer : Pairs) (place : ℕ) (rs : List Rule) → AllTouched unify branch pairs place rs
     → AllRefused unify branch pairs fewer place rs → AllTouched unify branch fewer place rs
 touched-after-dropping unify branch pairs fewer place [] w u = tt
-touched-after-dropping unify branch pairs fewer place (r ∷ rs) w u =
-    (every-both (IsLeftOut unify branch pairs place r) (IsRefusedSince unify branch pairs fewer place r) (IsLeftOut unify branch fewer place r)
-    (λ cs a b e. go cs a b e (holds_pair pairs place cs) refl) (tuples (heads_of r) branch.store) w.0 u.0,
-    touched-after-dropping unify branch pairs fewer (suc place) rs w.1 u.1)
+touched-after-dropping unify branch pairs fewer place (r ∷ rs) w u = (
+  every-both (IsLeftOut unify branch pairs place r) (IsRefusedSince unify branch pairs fewer place r) (IsLeftOut unify branch fewer place r)
+      (λ cs a b e. go cs a b e (holds_pair pairs place cs) refl) (tuples (heads_of r) branch.store) w.0 u.0,
+  touched-after-dropping unify branch pairs fewer (suc place) rs w.1 u.1,
+)
   where
     go : (cs : List Constraint) → IsLeftOut unify branch pairs place r cs → IsRefusedSince unify branch pairs fewer place r cs → holds_pair fewer place cs ≡ false → (b : Bool) → holds_pair pairs place cs ≡ b → rule_instance unify branch place r cs ≡ None
     go cs a b e true k = b k e
@@ -544,12 +552,13 @@ module _ (unify : Unification) (fair : IsFair unify) (branch : Branch) (v u n : 
 
   pub touched-after-renaming : Every IsMet branch.store → (place : ℕ) (rs : List Rule) → place + length rs ≤ count → AllTouched unify branch pairs place rs → AllTouched unify (bound_branch (to_second v u) n branch) more place rs
   touched-after-renaming met place [] few w = tt
-  touched-after-renaming met place (r ∷ rs) few w =
-      (subst (λ (css : List (List Constraint)). Every (IsLeftOut unify (bound_branch (to_second v u) n branch) more place r) css) (sym (tuples-changed (bound_constraint (to_second v u)) (heads_of r) branch.store))
-      (every-mapped (IsLeftOut unify (bound_branch (to_second v u) n branch) more place r) (map (bound_constraint (to_second v u))) (tuples (heads_of r) branch.store)
-      (every-both (IsLeftOut unify branch pairs place r) (Every IsMet) (λ cs. IsLeftOut unify (bound_branch (to_second v u) n branch) more place r (map (bound_constraint (to_second v u)) cs))
-      (met-left-out place (omega arith) r) (tuples (heads_of r) branch.store) w.0 (every-tuple IsMet (heads_of r) branch.store met))),
-      touched-after-renaming met (suc place) rs (omega arith) w.1)
+  touched-after-renaming met place (r ∷ rs) few w = (
+    subst (λ (css : List (List Constraint)). Every (IsLeftOut unify (bound_branch (to_second v u) n branch) more place r) css) (sym (tuples-changed (bound_constraint (to_second v u)) (heads_of r) branch.store))
+        (every-mapped (IsLeftOut unify (bound_branch (to_second v u) n branch) more place r) (map (bound_constraint (to_second v u))) (tuples (heads_of r) branch.store)
+        (every-both (IsLeftOut unify branch pairs place r) (Every IsMet) (λ cs. IsLeftOut unify (bound_branch (to_second v u) n branch) more place r (map (bound_constraint (to_second v u)) cs))
+        (met-left-out place (omega arith) r) (tuples (heads_of r) branch.store) w.0 (every-tuple IsMet (heads_of r) branch.store met))),
+    touched-after-renaming met (suc place) rs (omega arith) w.1,
+  )
 
 -- a row of rule moves
 pub refused-after-firing : (unify : Unification) → IsFair unify → (branch : Branch) (barrier : ℕ) (f : Firing) (place : ℕ) (r : Rule) (cs : List Constraint) → branch.next_var ≤ f.next_var → Every (ConstraintBelow branch.next_var) cs
@@ -580,18 +589,20 @@ same-instance unify b c f n place r cs =
 
 pub touched-of-fields : (unify : Unification) (b c : Branch) → c.store ≡ b.store → c.fired ≡ b.fired → c.next_var ≡ b.next_var → (pairs : Pairs) (place : ℕ) (rs : List Rule) → AllTouched unify b pairs place rs → AllTouched unify c pairs place rs
 touched-of-fields unify b c s f n pairs place [] w = tt
-touched-of-fields unify b c s f n pairs place (r ∷ rs) w =
-    (subst (λ (cs : List Constraint). Every (IsLeftOut unify c pairs place r) (tuples (heads_of r) cs)) (sym s)
-    (every-weaker (IsLeftOut unify b pairs place r) (IsLeftOut unify c pairs place r) (λ cs u e. same-instance unify b c f n place r cs ∙ u e) (tuples (heads_of r) b.store) w.0),
-    touched-of-fields unify b c s f n pairs (suc place) rs w.1)
+touched-of-fields unify b c s f n pairs place (r ∷ rs) w = (
+  subst (λ (cs : List Constraint). Every (IsLeftOut unify c pairs place r) (tuples (heads_of r) cs)) (sym s)
+      (every-weaker (IsLeftOut unify b pairs place r) (IsLeftOut unify c pairs place r) (λ cs u e. same-instance unify b c f n place r cs ∙ u e) (tuples (heads_of r) b.store) w.0),
+  touched-of-fields unify b c s f n pairs (suc place) rs w.1,
+)
 
 pub touched-later : (unify : Unification) → IsFair unify → (branch : Branch) (n : ℕ) → branch.next_var ≤ n → Every (ConstraintBelow branch.next_var) branch.store → (pairs : Pairs) (place : ℕ) (rs : List Rule)
     → AllTouched unify branch pairs place rs → AllTouched unify (record branch { next_var = n }) pairs place rs
 touched-later unify fair branch n high below pairs place [] w = tt
-touched-later unify fair branch n high below pairs place (r ∷ rs) w =
-    (every-both (IsLeftOut unify branch pairs place r) (Every (ConstraintBelow branch.next_var)) (IsLeftOut unify (record branch { next_var = n }) pairs place r)
-    (λ cs u b e. refused-later unify fair branch n high place r cs b (u e)) (tuples (heads_of r) branch.store) w.0 (every-tuple (ConstraintBelow branch.next_var) (heads_of r) branch.store below),
-    touched-later unify fair branch n high below pairs (suc place) rs w.1)
+touched-later unify fair branch n high below pairs place (r ∷ rs) w = (
+  every-both (IsLeftOut unify branch pairs place r) (Every (ConstraintBelow branch.next_var)) (IsLeftOut unify (record branch { next_var = n }) pairs place r)
+      (λ cs u b e. refused-later unify fair branch n high place r cs b (u e)) (tuples (heads_of r) branch.store) w.0 (every-tuple (ConstraintBelow branch.next_var) (heads_of r) branch.store below),
+  touched-later unify fair branch n high below pairs (suc place) rs w.1,
+)
 
 -- a whole rule move
 pub touched-after-rule : (unify : Unification) → IsFair unify → (branch : Branch) (barrier : ℕ) (f : Firing) → branch.next_var ≤ f.next_var → Every (ConstraintBelow branch.next_var) branch.store → (pairs : Pairs) (rs : List Rule)
@@ -616,13 +627,14 @@ same-pairs-vars p pairs place (c ∷ cs) = ap (λ (b : Bool). pairs place c.numb
 
 pub touched-renamed : (unify : Unification) → IsFair unify → (branch : Branch) (p : ℕ → ℕ) → IsRenamingAt branch.next_var p → (pairs : Pairs) (place : ℕ) (rs : List Rule) → AllTouched unify branch pairs place rs → AllTouched unify (branch_vars p branch) pairs place rs
 touched-renamed unify fair branch p good pairs place [] w = tt
-touched-renamed unify fair branch p good pairs place (r ∷ rs) w =
-    (subst (λ (css : List (List Constraint)). Every (IsLeftOut unify (branch_vars p branch) pairs place r) css) (sym (tuples-changed (constraint_vars p) (heads_of r) branch.store))
-    (every-mapped (IsLeftOut unify (branch_vars p branch) pairs place r) (map (constraint_vars p)) (tuples (heads_of r) branch.store)
-    (every-weaker (IsLeftOut unify branch pairs place r) (λ cs. IsLeftOut unify (branch_vars p branch) pairs place r (map (constraint_vars p) cs))
-    (λ cs u e. none-stays (RenamedFiring p branch.next_var) (rule_instance unify branch place r cs) (rule_instance unify (branch_vars p branch) place r (map (constraint_vars p) cs)) (rule-instance-vars unify fair p branch good place r cs) (u (sym (same-pairs-vars p pairs place cs) ∙ e)))
-    (tuples (heads_of r) branch.store) w.0)),
-    touched-renamed unify fair branch p good pairs (suc place) rs w.1)
+touched-renamed unify fair branch p good pairs place (r ∷ rs) w = (
+  subst (λ (css : List (List Constraint)). Every (IsLeftOut unify (branch_vars p branch) pairs place r) css) (sym (tuples-changed (constraint_vars p) (heads_of r) branch.store))
+      (every-mapped (IsLeftOut unify (branch_vars p branch) pairs place r) (map (constraint_vars p)) (tuples (heads_of r) branch.store)
+      (every-weaker (IsLeftOut unify branch pairs place r) (λ cs. IsLeftOut unify (branch_vars p branch) pairs place r (map (constraint_vars p) cs))
+      (λ cs u e. none-stays (RenamedFiring p branch.next_var) (rule_instance unify branch place r cs) (rule_instance unify (branch_vars p branch) place r (map (constraint_vars p) cs)) (rule-instance-vars unify fair p branch good place r cs) (u (sym (same-pairs-vars p pairs place cs) ∙ e)))
+      (tuples (heads_of r) branch.store) w.0)),
+  touched-renamed unify fair branch p good pairs (suc place) rs w.1,
+)
 
 -- tuples of the constraints that stay are the tuples whose constraints all stay, in the same order
 filter-flat : {A B : Type 0} (p : B → Bool) (f : A → List B) (xs : List A) → filter p (flat_map f xs) ≡ flat_map (λ x. filter p (f x)) xs
@@ -683,8 +695,8 @@ rest-after-firing unify fair branch barrier f place r before cs after high below
     let later : Branch = after_firing branch barrier f in
     let all : Every (Every (ConstraintBelow branch.next_var)) (before ++ cs ∷ after) = subst (λ (css : List (List Constraint)). Every (Every (ConstraintBelow branch.next_var)) css) split (every-tuple (ConstraintBelow branch.next_var) (heads_of r) branch.store below) in
     let still : Every (λ ds. rule_instance unify later place r ds ≡ None) before =
-        every-both (λ ds. rule_instance unify branch place r ds ≡ None) (Every (ConstraintBelow branch.next_var)) (λ ds. rule_instance unify later place r ds ≡ None)
-        (λ ds u b. refused-after-firing unify fair branch barrier f place r ds high b u) before refused (every-append-left (Every (ConstraintBelow branch.next_var)) before (cs ∷ after) all) in
+    every-both (λ ds. rule_instance unify branch place r ds ≡ None) (Every (ConstraintBelow branch.next_var)) (λ ds. rule_instance unify later place r ds ≡ None)
+    (λ ds u b. refused-after-firing unify fair branch barrier f place r ds high b u) before refused (every-append-left (Every (ConstraintBelow branch.next_var)) before (cs ∷ after) all) in
     ap (first_tuple unify later place r) (tuples-of-filtered stays (heads_of r) branch.store ∙ ap (filter (list_all stays)) split ∙ filter-append (list_all stays) before (cs ∷ after))
     ∙ skip-refused unify later place r (filter (list_all stays) before) (filter (list_all stays) (cs ∷ after)) (filtered (list_all stays) (λ ds. rule_instance unify later place r ds ≡ None) before still)
     ∙ one (list_all stays cs) (filter (list_all stays) after)
@@ -696,6 +708,7 @@ rest-after-firing unify fair branch barrier f place r before cs after high below
         go : (b : Bool) → Every P (filter p xs) → Every P (cond b (x ∷ filter p xs) (filter p xs))
         go true u = (w.0, u)
         go false u = u
+
     one : (b : Bool) (rest : List (List Constraint)) → first_tuple unify (after_firing branch barrier f) place r (cond b (cs ∷ rest) rest) ≡ first_tuple unify (after_firing branch barrier f) place r rest
     one true rest = ap (λ (o : Option (Judged Firing)). or_later o (first_tuple unify (after_firing branch barrier f) place r rest)) (fired-is-refused unify branch barrier f place r cs e)
     one false rest = refl

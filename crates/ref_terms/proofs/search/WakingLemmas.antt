@@ -27,12 +27,14 @@ head-stays v w u (Var x) e n = go (nat_eq v x) refl
   where
     same : Some x ≡ Some w
     same = e
+
     go : (b : Bool) → nat_eq v x ≡ b → heading (cond (nat_eq v x) u (At (Var x))) ≡ Some w
     go true k = absurd (let z : true ≡ false = sym k ∙ other in cc)
       where
         unwrapped : Option ℕ → ℕ
         unwrapped (Some y) = y
         unwrapped None = x
+
         other : nat_eq v x ≡ false
         other = ap (λ (o : Option ℕ). nat_eq v (unwrapped o)) same ∙ n
     go false k = rw k e
@@ -53,11 +55,14 @@ renamed-head v u (Var x) e = go (nat_eq v x) refl
   where
     same : Some x ≡ Some v
     same = e
+
     unwrapped : Option ℕ → ℕ
     unwrapped (Some y) = y
     unwrapped None = x
+
     equal : x ≡ v
     equal = ap unwrapped same
+
     go : (b : Bool) → nat_eq v x ≡ b → heading (cond (nat_eq v x) (At (Var u)) (At (Var x))) ≡ Some u
     go true k = rw k refl
     go false k = absurd (eqb-false v x k (sym equal))

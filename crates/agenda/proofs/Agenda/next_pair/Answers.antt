@@ -4,7 +4,7 @@ use Rattle.std.proofs.lemmas.List.{length-reverse}
 use Rattle.agenda.specs.declared.Change.{Change}
 use Rattle.agenda.specs.declared.Change.TheVariants.{Taken}
 use Rattle.agenda.specs.Log.{pairs_of, pairs_after}
-use Rattle.agenda.specs.Ranks.{IsFirst}
+use Rattle.agenda.specs.inside.Ranks.{IsFirst}
 use Rattle.agenda.proofs.KeptLemmas.{rank-is, kept-taken, kept-along, first-pair, no-pair, reversed-push}
 use Rattle.agenda.proofs.Agenda.next_pair.Goals as goal
 

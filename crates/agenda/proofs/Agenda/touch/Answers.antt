@@ -2,7 +2,7 @@ use Rattle.std.proofs.Common.{◌≡◌, ◌+◌, ◌*◌, ◌<◌, ◌≤◌, L
 use Rattle.std.proofs.lemmas.List.{length-reverse}
 use Rattle.agenda.specs.declared.Change.{Change}
 use Rattle.agenda.specs.Log.{Changes, touched}
-use Rattle.agenda.specs.Kept.{IsKept, rank_after, puts}
+use Rattle.agenda.specs.inside.Kept.{IsKept, rank_after, puts}
 use Rattle.agenda.proofs.KeptLemmas.{rank-is, kept-reach, kept-puts, kept-along, touched-puts, adds-by_log, later-by_log}
 use Rattle.agenda.proofs.Agenda.touch.Goals as goal
 

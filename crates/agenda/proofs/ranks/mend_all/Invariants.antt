@@ -1,5 +1,5 @@
 use Rattle.std.proofs.Common.{◌≡◌, ℕ, ◌<◌, ◌≤◌, drop}
-use Rattle.agenda.specs.Ranks.{IsInner}
+use Rattle.agenda.specs.inside.Ranks.{IsInner}
 use Rattle.agenda.proofs.ranks.mend_all.Given as goal
 
 abbrev pub invariant-loop-k : goal.invariant-loop-k

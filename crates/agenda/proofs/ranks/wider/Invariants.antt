@@ -1,5 +1,5 @@
 use Rattle.std.proofs.Common.{◌≡◌, ℕ, ◌+◌, ◌<◌, get_or, vec_len}
-use Rattle.agenda.specs.Ranks.{node, ranks_of}
+use Rattle.agenda.specs.inside.Ranks.{node, ranks_of}
 use Rattle.agenda.proofs.ranks.wider.Given as goal
 
 abbrev pub invariant-loop-place : goal.invariant-loop-place

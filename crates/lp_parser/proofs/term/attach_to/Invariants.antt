@@ -1,5 +1,5 @@
 use Rattle.std.proofs.Common.{◌≡◌, length}
-use Rattle.lp_parser.specs.TermMachine.{attach}
+use Rattle.lp_parser.specs.inside.TermMachine.{attach}
 use Rattle.lp_parser.proofs.term.attach_to.Given as goal
 
 abbrev pub invariant-loop-frame : goal.invariant-loop-frame

@@ -1,5 +1,5 @@
 use Rattle.std.proofs.Common.{◌≡◌, length}
-use Rattle.lp_parser.specs.TermMachine.{settle}
+use Rattle.lp_parser.specs.inside.TermMachine.{settle}
 use Rattle.lp_parser.proofs.term.settle_all.Given as goal
 
 abbrev pub invariant-loop-frame : goal.invariant-loop-frame

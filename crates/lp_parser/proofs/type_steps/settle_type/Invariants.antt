@@ -1,5 +1,5 @@
 use Rattle.std.proofs.Common.{◌≡◌, length}
-use Rattle.lp_parser.specs.TypeMachine.{type_settle}
+use Rattle.lp_parser.specs.inside.TypeMachine.{type_settle}
 use Rattle.lp_parser.proofs.type_steps.settle_type.Given as goal
 
 abbrev pub invariant-loop-frame : goal.invariant-loop-frame

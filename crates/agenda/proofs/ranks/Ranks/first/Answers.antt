@@ -1,6 +1,6 @@
 use Rattle.std.proofs.Common.{◌≡◌, ℕ, ◌<◌, arith, subst, sym, List}
 use Rattle.std.proofs.lemmas.List.{get_or_read}
-use Rattle.agenda.specs.Ranks.{IsFirst, node}
+use Rattle.agenda.specs.inside.Ranks.{IsFirst, node}
 use Rattle.agenda.specs.declared.ranks.Entry.{Entry}
 use Rattle.agenda.proofs.TreeLemmas.{root-first}
 use Rattle.agenda.proofs.ranks.Ranks.first.Goals as goal

@@ -1,7 +1,7 @@
 use Rattle.std.specs.Vec.{with_item}
 use Rattle.std.proofs.Common.{ℕ, ◌+◌, List, set, drop, ap, ◌∙◌}
 use Rattle.std.proofs.lemmas.List.{with_items_is}
-use Rattle.agenda.specs.Ranks.{ranks_of}
+use Rattle.agenda.specs.inside.Ranks.{ranks_of}
 use Rattle.agenda.specs.declared.ranks.Entry.{Entry}
 use Rattle.agenda.proofs.TreeLemmas.{ranks-set}
 use Rattle.agenda.proofs.ranks.Ranks.set.Goals as goal

@@ -25,7 +25,7 @@ use Rattle.std.specs.contracts.alloc.Global as heap
 use Rattle.std.proofs.alloc.Global.TheLaws as heap_laws
 use Rattle.std.specs.contracts.impls.GlobalAllocator.TheImpl.{ghosts}
 use Rattle.std.proofs.raw_atomic.Walks.{proved_at}
-use Rattle.dance_list.specs.Blocks.{blocks_own}
+use Rattle.dance_list.specs.inside.Blocks.{blocks_own}
 use Rattle.dance_list.proofs.Memory.{Cr, word_made, last_in}
 use Rattle.dance_list.proofs.Values.{both, Loose, loose_good, loose_out, ends}
 use Rattle.dance_list.specs.contracts.cells.Cells.adopt.{ended, clauses}

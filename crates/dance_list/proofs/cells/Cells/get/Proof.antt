@@ -38,7 +38,7 @@ use types.Kit.{flt_l}
 use denote.Builtin.{usize}
 use Rattle.std.specs.Prelude.{Some}
 use Rattle.std.proofs.mem.Param.{El, R, args, el_x}
-use Rattle.dance_list.specs.Blocks.{nth}
+use Rattle.dance_list.specs.inside.Blocks.{nth}
 use denote.RawPtr.{ptr_val}
 use denote.Struct.Lending.{lent_at}
 use base.Logic.{fst∗}

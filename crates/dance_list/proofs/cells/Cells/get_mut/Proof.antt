@@ -40,14 +40,14 @@ use types.Kit.{flt_l}
 use denote.Builtin.{usize}
 use Rattle.std.specs.Prelude.{Some}
 use Rattle.std.proofs.mem.Param.{El, R, args, el_x}
-use Rattle.dance_list.specs.Blocks.{frees, nth, block_owns, blocks_own}
+use Rattle.dance_list.specs.inside.Blocks.{frees, nth, block_owns, blocks_own}
 use denote.RawPtr.{ptr_val, lies_at}
 use types.ByLocal.{is}
 use mir.Raw.{raw as bare}
 use denote.Memory.{lone}
 use Rattle.dance_list.proofs.Memory.{Cr, Pl, Mark, word_had, Besides, block_out, block_in}
 use denote.Follow.{follows, Part, lends_Part}
-use Rattle.dance_list.specs.Lends.{with_blocks}
+use Rattle.dance_list.specs.inside.Lends.{with_blocks}
 use Rattle.dance_list.specs.contracts.cells.Cells.get_mut.Key.{name as #self}
 use Rattle.dance_list.proofs.cells.Cells.get_mut.Statement as stated
 use Rattle.dance_list.proofs.cells.Cells.get_mut.Code as code

@@ -28,7 +28,7 @@ use Rattle.std.specs.contracts.alloc.Global as heap
 use Rattle.std.proofs.alloc.Global.TheLaws as heap_laws
 use Rattle.std.specs.contracts.impls.GlobalAllocator.TheImpl.{ghosts}
 use Rattle.std.proofs.raw_atomic.Walks.{proved_at}
-use Rattle.dance_list.specs.Blocks.{block_owns, blocks_own}
+use Rattle.dance_list.specs.inside.Blocks.{block_owns, blocks_own}
 use Rattle.dance_list.proofs.Memory.{Cr, Pl, word_had, last_out}
 use Rattle.dance_list.proofs.Values.{both, Loose, loose_good, loose_in, al, ends}
 use Rattle.dance_list.specs.contracts.cells.Cells.release.{ended, clauses}

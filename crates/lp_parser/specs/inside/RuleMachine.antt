@@ -25,7 +25,7 @@ use Rattle.lp_parser.specs.declared.item_state.RulePlace.TheVariants as at
 use Rattle.lp_parser.specs.declared.item_state.RuleState.{RuleState}
 use Rattle.lp_parser.specs.declared.item_state.Moved.{Moved}
 use Rattle.lp_parser.specs.declared.item_state.Moved.TheVariants.{To, Done}
-use Rattle.lp_parser.specs.TermMachine.{atom_of, joined, step, settled_at}
+use Rattle.lp_parser.specs.inside.TermMachine.{atom_of, joined, step, settled_at}
 
 -- where a lexeme leads from a state of a rule
 abbrev pub RuleMoved : Type 0

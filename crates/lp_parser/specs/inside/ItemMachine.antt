@@ -29,9 +29,9 @@ use Rattle.lp_parser.specs.declared.item_state.QueryState.TheVariants as query
 use Rattle.lp_parser.specs.declared.item_state.Moved.{Moved}
 use Rattle.lp_parser.specs.declared.item_state.Moved.TheVariants.{To, Done}
 use Rattle.lp_parser.specs.Program.{place_of}
-use Rattle.lp_parser.specs.TermMachine.{step, settled_at}
-use Rattle.lp_parser.specs.DeclMachine.{decl_move}
-use Rattle.lp_parser.specs.RuleMachine.{empty_rule, whole, rule_move}
+use Rattle.lp_parser.specs.inside.TermMachine.{step, settled_at}
+use Rattle.lp_parser.specs.inside.DeclMachine.{decl_move}
+use Rattle.lp_parser.specs.inside.RuleMachine.{empty_rule, whole, rule_move}
 
 -- where a lexeme leads from a state of a block
 abbrev pub BlockMoved : Type 0

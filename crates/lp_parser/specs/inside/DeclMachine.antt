@@ -19,7 +19,7 @@ use Rattle.lp_parser.specs.declared.item_state.DeclState.TheVariants as decl
 use Rattle.lp_parser.specs.declared.item_state.Moved.{Moved}
 use Rattle.lp_parser.specs.declared.item_state.Moved.TheVariants.{To, Done}
 use Rattle.lp_parser.specs.Declarations.{mode_of}
-use Rattle.lp_parser.specs.TypeMachine.{type_step, type_settled, type_whole}
+use Rattle.lp_parser.specs.inside.TypeMachine.{type_step, type_settled, type_whole}
 
 -- where a lexeme leads from a state of a declaration
 abbrev pub DeclMoved : Type 0

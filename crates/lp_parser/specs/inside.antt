@@ -1,0 +1,5 @@
+pub mod DeclMachine
+pub mod ItemMachine
+pub mod RuleMachine
+pub mod TermMachine
+pub mod TypeMachine
