@@ -1,0 +1,13 @@
+//! Whole runs over files and a sink in memory: the worked rows, a line each, failing reads and writes, and the limits.
+//!
+//! The crate has tests alone. Expected values are by hand.
+#![tactic(auto)]
+
+#[cfg(test)]
+mod failing;
+#[cfg(test)]
+mod limits;
+#[cfg(test)]
+mod rows;
+#[cfg(test)]
+mod runs;
