@@ -1,5 +1,6 @@
 pub mod ReadyLaws
 pub mod SearchLaws
 pub mod TermLaws
+pub mod TextLaws
 pub mod TouchLaws
 pub mod UnifyLaws

@@ -6,4 +6,5 @@ pub mod NameLemmas
 pub mod OccursLemmas
 pub mod ReadyFacts
 pub mod TermLemmas
+pub mod TextFacts
 pub mod VarsLemmas

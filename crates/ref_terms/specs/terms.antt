@@ -7,3 +7,4 @@ pub mod Occurs
 pub mod Ready
 pub mod Renamed
 pub mod Term
+pub mod Text

@@ -2,6 +2,7 @@
 
 ghost use Rattle.ref_terms.specs.laws.TermLaws.{FillTwiceIsOnce, FillAppliesTheSame, FillAbstractsTheSame, InstanceApplies, InstanceOfAllApplies, ApplicationBuilds, AbstractionBuilds, FillBuilds, BuiltStays, AbsentVariable, OpeningIsReplacing, ApplicationOpens, AbstractionUndoesApplication, ApplicationUndoesAbstraction};
 ghost use Rattle.ref_terms.specs.laws.ReadyLaws.{NameIsReady, BoundIndexIsReady, ReadyIsRigid, ReadyAfterInstance, ReadyAfterOpening, UnreadyAfterOpening};
+ghost use Rattle.ref_terms.specs.laws.TextLaws.{TextApplicationBuilds, TextAbstractionBuilds, RebuiltTextApplies};
 ghost use Rattle.ref_terms.specs.laws.UnifyLaws.{HasOneAnswer, UnificationEnds, UnifyIsReached, UnifyIsTheOnlyAnswer, StepKeepsAnswer, LastStepAnswers, StepsFall, LastStepIsOne};
 ghost use Rattle.ref_terms.specs.laws.SearchLaws.{RenamedProblemHasRenamedAnswer, RenamingOfUsedVariables, RenamedStatesMoveRenamed, AlikeStatesMoveAlike, AlikeEventsShowTheSame, AlikeStatesShowTheSame, StrippedStateMovesStripped, AlikeStatesStripAlike, AlikeOnceStrippedMoveAlike, AlikeOnceStrippedShowTheSame, FirstStateIsCounted, CountedStateMovesCounted};
 ghost use Rattle.ref_terms.specs.laws.TouchLaws.{FirstTouchedIsFirst, TouchedAfterBindings, TouchedAfterRenaming, TouchedAfterAdding, TouchedAfterLeaving, TouchedAfterFiring, TouchedAfterDropping, TouchedAfterRule, TouchedAfterWaking, TouchedRenamed, RefusedAfterFiring, FiredIsRefused, RestAfterFiring, WatchedSleepsOn, PairsShare};
@@ -58,6 +59,14 @@ pub fn law_ready()
     ensures instance { ReadyAfterInstance }
     ensures opening { ReadyAfterOpening }
     ensures unready { UnreadyAfterOpening }
+{}
+
+/// Application and abstraction of a text's terms build as a text is built, and an application of a text,
+/// rebuilt, is the application of what is rebuilt.
+pub fn law_text()
+    ensures application { TextApplicationBuilds }
+    ensures abstraction { TextAbstractionBuilds }
+    ensures rebuilt { RebuiltTextApplies }
 {}
 
 /// A run of unification has one answer.

@@ -27,7 +27,7 @@ stuck-sub s h (At _) a w = tt
 stuck-sub s h (App f b) a w = tt
 
 -- renaming what is built
-eta-ren : (f : ℕ → ℕ) (b : Term) → eta (ren (up f) b) ≡ option_map (ren f) (eta b)
+pub eta-ren : (f : ℕ → ℕ) (b : Term) → eta (ren (up f) b) ≡ option_map (ren f) (eta b)
 eta-ren f b =
     ap eta (ren_sub (up f) b ∙ ap (λ s. sub s b) (sym (fun_ext (under_up f)))) ∙ eta-sub (λ i. At (Bound (f i))) b
     ∙ ap (λ g. option_map g (eta b)) (fun_ext (λ t. sym (ren_sub f t)))
@@ -42,7 +42,7 @@ built-ren f (Lam b) v = (built-ren (up f) b v.0, eta-ren f b ∙ ap (option_map 
 built-ren f (At h) v = tt
 built-ren f (App g a) v = (built-ren f g v.0, built-ren f a v.1, stuck-ren f g a v.2)
 
-map_none : {A B : Type 0} (g : A → B) (o : Option A) → option_map g o ≡ None → o ≡ None
+pub map_none : {A B : Type 0} (g : A → B) (o : Option A) → option_map g o ≡ None → o ≡ None
 map_none g None e = refl
 map_none g (Some x) e = absurd (let k : Some (g x) ≡ None = e in cc)
 
