@@ -1,0 +1,2 @@
+" Programs for Doqwesha and ELPI.
+autocmd BufRead,BufNewFile *.lp,*.elpi setfiletype lambdaprolog
