@@ -1,0 +1,4 @@
+pub mod Graph
+pub mod Solved
+pub mod Types
+pub mod inside
