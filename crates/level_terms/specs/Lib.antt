@@ -4,6 +4,7 @@ pub mod Reading
 pub mod Valid
 pub mod Reached
 pub mod Sound
+pub mod GroundNormal
 pub mod Growth
 pub mod Undo
 pub mod HeapView
