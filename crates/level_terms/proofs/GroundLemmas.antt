@@ -118,7 +118,7 @@ pub ground_normal-node_term : (g : Graph) (t : ℕ) (env : ℕ → Term) → IsG
 unfolding read
 ground_normal-node_term g t env e p =
     covers-node_term g.nodes g.depths t env p (values_of g.nodes g.depths g.assigned) (λ v. At (term.Var v)) (built-value g.nodes g.depths g.assigned) (λ v. tt)
-        (λ v q. absurd (let k : false ≡ true = sym (bare-reaches v (node_tree g.nodes t) (bare-tree g.nodes t e)) ∙ q in cc))
+    (λ v q. absurd (let k : false ≡ true = sym (bare-reaches v (node_tree g.nodes t) (bare-tree g.nodes t e)) ∙ q in cc))
     ∙ ap (λ (r : Head → Term). fill r (node_term g.nodes g.depths t env)) (fun_ext own_values)
     ∙ fill_at (node_term g.nodes g.depths t env) (built-node_term g.nodes g.depths t env (λ i. places-built (env i) (p i)))
 

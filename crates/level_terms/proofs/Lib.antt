@@ -19,3 +19,4 @@ pub mod ReadLemmas
 pub mod MakeLemmas
 pub mod MarkLemmas
 pub mod GroundLemmas
+pub mod GainLemmas

@@ -6,6 +6,7 @@ pub mod Reached
 pub mod Sound
 pub mod GroundNormal
 pub mod Growth
+pub mod Gains
 pub mod Undo
 pub mod HeapView
 pub mod Laws

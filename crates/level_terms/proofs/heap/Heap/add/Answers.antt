@@ -39,7 +39,7 @@ invariant_of-self-2 c =
             let kept = c.push_reserved.ensures.items ∙ ap (λ (bs : List Bool). bs ++ c.is_fixed-fixed.result ∷ []) c.in_ok-reserve.ensures.items in
             ap (λ (bs : List Bool). slice_get bs t) kept
             ∙ bits-push c.self.inside.nodes.items c.self.inside.fixed.items c.args.node c.is_fixed-fixed.result (omega (arith, c.self.invariant.marked.many, c.self.inside.nodes.ok, c.self.inside.fixed.ok)) c.self.invariant.marked.bits bit t
-                (subst (λ (ns : List Node). t < length ns) c.in_ok-push.ensures.items h)
+            (subst (λ (ns : List Node). t < length ns) c.in_ok-push.ensures.items h)
             ∙ ap (λ (ns : List Node). Some (ground_normal (reverse ns) t)) (sym c.in_ok-push.ensures.items);
       };
       sound = sound-node (graph_of c.self.inside) _ c.args.node
