@@ -1,5 +1,5 @@
 -- Names that stand for ready terms.
-use Rattle.std.proofs.Common.{◌≡◌, ℕ, zero, suc, ◌<◌, ◌≤◌, ◌+◌, ◌-◌, ◌++◌, List, [], ◌∷◌, length, map, take, reverse, slice_index, cond, nat_eq, Bool, true, false, Some, min, get_or, refl, sym, ap, ap₂, ◌∙◌, arith, subst, eqb-true, eq-eqb, length-append}
+use Rattle.std.proofs.Common.{◌≡◌, ◌||◌, nat_lt, ℕ, zero, suc, ◌<◌, ◌≤◌, ◌+◌, ◌-◌, ◌++◌, List, [], ◌∷◌, length, map, take, reverse, slice_index, cond, nat_eq, Bool, true, false, Some, min, get_or, refl, sym, ap, ap₂, ◌∙◌, arith, subst, eqb-true, eq-eqb, length-append}
 use Rattle.std.proofs.lemmas.List.{reverse-reverse, map-append, length-reverse}
 use Rattle.level_terms.specs.declared.node.Node.TheVariants.{Lam}
 use Rattle.level_terms.specs.declared.node.TermId.{TermId}
@@ -22,24 +22,25 @@ use Rattle.ref_terms.specs.laws.TermLaws.{AllBuilt, KeepsReady}
 use Rattle.ref_terms.specs.lemmas.ComposeLemmas.{fill-apply}
 use Rattle.beta_fragment.specs.Names.{names, renamed}
 use Rattle.beta_fragment.specs.Moves.{IsMove, put_name, Lacks}
-use Rattle.beta_fragment.specs.HeadForm.{AllValidAt, all_read, IsHeadForm, rigid_head}
+use Rattle.beta_fragment.specs.HeadForm.{AllValidAt, all_read, IsHeadForm, HasLowHead, rigid_head}
 use Rattle.beta_fragment.specs.declared.answer.RigidHead.{RigidHead}
 use Rattle.beta_fragment.specs.declared.answer.Whnf.{Whnf}
-use Rattle.beta_fragment.specs.declared.answer.Whnf.TheVariants.{Rigid, Flex, Redex}
+use Rattle.beta_fragment.specs.declared.answer.Whnf.TheVariants.{Lam as LamForm, Rigid, Flex, Redex}
+use Rattle.beta_fragment.specs.declared.answer.RigidHead.TheVariants.{Con, Int, Str, Level as LevelHead}
 use Rattle.level_terms.specs.declared.node.VarId.{VarId}
-use Rattle.beta_fragment.specs.Firm.{IsSpine}
+use Rattle.beta_fragment.specs.Firm.{IsSpine, IsPlain}
 use Rattle.beta_fragment.specs.Turn.{GoesOn, TakesOn, FirstReady, IsFirstArg}
 use Rattle.beta_fragment.specs.Standing.{StandFor, ArePut, HasForm, FoundAs}
 use Rattle.level_terms.proofs.ReadLemmas.{read-built, valid-below, grown-reads}
 use Rattle.beta_fragment.proofs.EnterLemmas.{body-applied, body-valid}
 use Rattle.level_terms.proofs.MakeLemmas.{parts-there, apply_all-append}
-use Rattle.beta_fragment.proofs.MoveLemmas.{node-before, assigned-before}
+use Rattle.beta_fragment.proofs.MoveLemmas.{node-before, assigned-before, below_from, above_from}
 use Rattle.beta_fragment.proofs.WorkLemmas.{lam-size}
 use Rattle.beta_fragment.proofs.NamelessLemmas.{nameless-read}
 use Rattle.beta_fragment.proofs.PutLemmas.{put-absent}
 use Rattle.beta_fragment.proofs.FilledLemmas.{low_names, low-lack, low-same}
 use Rattle.beta_fragment.proofs.HeadLemmas.{renamed-places, take-front, take-next, take-more, lam-within, newest-arg, valid-append, read-grown_all, valid-grown_all}
-use Rattle.beta_fragment.proofs.FirmLemmas.{applied-ready}
+use Rattle.beta_fragment.proofs.FirmLemmas.{applied-ready, apply-plain}
 use Rattle.beta_fragment.proofs.TakingLaws.{rigid-ready}
 
 -- a ready term in the place of a name
@@ -72,7 +73,7 @@ pub put-other : (n : ℕ) (s : Term) (h : Head) → is_name n h ≡ false → fi
 put-other n s h e = ap (λ b. cond b s (At h)) e
 
 -- the name of a depth isn't in what is valid there
-low-read : (g : Graph) (t depth : ℕ) → IsValid g t depth → has_name depth (read g t names) ≡ false
+pub low-read : (g : Graph) (t depth : ℕ) → IsValid g t depth → has_name depth (read g t names) ≡ false
 low-read g t depth v = ap (has_name depth) (readings_local g t depth names (low_names depth) v (λ i h. low-same depth i h)) ∙ nameless-read depth g t (low_names depth) (low-lack depth)
 
 pub put-low_read : (g : Graph) (t depth : ℕ) (s : Term) → IsValid g t depth → fill (put_name depth s) (read g t names) ≡ read g t names
@@ -345,3 +346,22 @@ first-ready g a (b ∷ ts) w r = subst (λ (z : TermId). ready (read g z.index n
 pub first-valid : (g : Graph) (depth : ℕ) (a : TermId) (ts : List TermId) → IsFirstArg a ts → AllValidAt g ts depth → IsValid g a.index depth
 first-valid g depth a [] w v = absurd w
 first-valid g depth a (b ∷ ts) w v = subst (λ (z : TermId). IsValid g z.index depth) (sym w) v.0
+
+-- the head of a form is in the term
+has-head : (n : ℕ) (xs : List Term) (t : Term) → IsPlain t → has_name n t ≡ true → has_name n (apply_all t xs) ≡ true
+has-head n [] t w e = e
+has-head n (x ∷ xs) t w e = subst (λ z. has_name n (apply_all z xs) ≡ true) (sym (apply-plain t x w)) (has-head n xs (term.App t x) tt (ap (λ b. b || has_name n x) e))
+
+pub form-low : (g h : Graph) (t depth : ℕ) (w : Whnf) → IsValid g t depth → IsHeadForm h depth (read g t names) w → HasLowHead depth w
+form-low g h t depth (LamForm r) v k = tt
+form-low g h t depth (Flex x args) v k = tt
+form-low g h t depth (Redex r args) v k = tt
+form-low g h t depth (Rigid (Con c) args) v k = tt
+form-low g h t depth (Rigid (Int n) args) v k = tt
+form-low g h t depth (Rigid (Str s) args) v k = tt
+form-low g h t depth (Rigid (LevelHead l) args) v k = go (nat_lt l depth) refl
+  where
+    go : (b : Bool) → nat_lt l depth ≡ b → l < depth
+    go true e = below_from l depth e
+    go false e = absurd (let low = above_from l depth e in
+        let z : true ≡ false = sym (has-head l (all_read h args) (names l) tt (eq-eqb l l refl)) ∙ sym (ap (has_name l) k.1) ∙ low-read g t l (valid_deeper g t depth l v low) in cc)

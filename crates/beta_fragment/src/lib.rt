@@ -14,6 +14,7 @@ mod equality;
 mod evaluating;
 mod glance;
 mod head;
+mod instantiating;
 mod levels;
 mod opening;
 mod putting;
@@ -25,9 +26,10 @@ mod standing;
 mod taking;
 
 pub use answer::{Names, RigidHead, UnifyStop, Whnf};
-pub use body::enter;
+pub use body::{applied_to_level, enter};
 pub use equality::same_term;
 pub use head::whnf;
+pub use instantiating::instantiate;
 pub use opening::contract;
 pub use renaming::lift;
 
