@@ -27,8 +27,9 @@ use Rattle.beta_fragment.specs.Moves.{Lacks, put_name, IsMove}
 use Rattle.beta_fragment.specs.HeadForm.{AllValidAt, all_read}
 use Rattle.beta_fragment.specs.Firm.{IsPlain}
 use Rattle.beta_fragment.specs.Instantiation.{put_names, AllPlain}
-use Rattle.beta_fragment.proofs.ReadLemmas.{read-built, read-follows}
-use Rattle.beta_fragment.proofs.MoveLemmas.{below_true, below_false, below_from, above_from}
+use Rattle.level_terms.proofs.ReadLemmas.{read-built, read-follows}
+use Rattle.beta_fragment.proofs.MoveLemmas.{below_false, below_from, above_from}
+use Rattle.level_terms.proofs.MakeLemmas.{below_true}
 use Rattle.beta_fragment.proofs.NamelessLemmas.{nameless-read}
 use Rattle.beta_fragment.proofs.PutLemmas.{put-absent}
 use Rattle.beta_fragment.proofs.FilledLemmas.{fill-after}

@@ -9,7 +9,7 @@ use Rattle.beta_fragment.specs.Names.{names}
 use Rattle.beta_fragment.specs.Moves.{put_name}
 use Rattle.beta_fragment.specs.HeadForm.{all_read}
 use Rattle.beta_fragment.specs.Instantiation.{put_names}
-use Rattle.beta_fragment.proofs.ReadLemmas.{valid-below, grown-reads, read-built}
+use Rattle.level_terms.proofs.ReadLemmas.{valid-below, grown-reads, read-built}
 use Rattle.beta_fragment.proofs.StandLemmas.{valid-nth}
 use Rattle.beta_fragment.proofs.InstantLemmas.{drop-nothing, put-next}
 use Rattle.beta_fragment.proofs.instantiating.put_all.Goals as goal

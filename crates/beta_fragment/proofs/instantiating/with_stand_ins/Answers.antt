@@ -5,7 +5,7 @@ use Rattle.level_terms.specs.Valid.{IsValid}
 use Rattle.level_terms.proofs.GrowthLemmas.{grows-refl}
 use Rattle.ref_terms.specs.terms.Apply.{fill}
 use Rattle.beta_fragment.specs.Names.{names, renamed}
-use Rattle.beta_fragment.specs.Moves.{value_of}
+use Rattle.level_terms.specs.Values.{value_of}
 use Rattle.beta_fragment.specs.Instantiation.{put_names}
 use Rattle.beta_fragment.proofs.HeadLemmas.{renamed-node, renamed-valid}
 use Rattle.beta_fragment.proofs.InstantLemmas.{put-anywhere, begins-own, begins-renamed, stand-move}
