@@ -1,4 +1,5 @@
 pub mod ReadLemmas
+pub mod ReachLemmas
 pub mod EnterLemmas
 pub mod MakeLemmas
 pub mod MoveLemmas
@@ -31,6 +32,7 @@ pub mod TakingSteps
 pub mod ApplyingLemmas
 pub mod QuoteLemmas
 pub mod QuoteWork
+pub mod RebuildLemmas
 pub mod OpenHeadLemmas
 pub mod EvaluationLemmas
 pub mod ArgumentLemmas

@@ -27,6 +27,7 @@ use Rattle.beta_fragment.specs.HeadForm.{AllValidAt}
 use Rattle.beta_fragment.specs.Moves.{Value, value_of, Moves, IsLamOf, IsAppOf, IsLevelOf, IsMove, Plan, naming, Does, moved, moved_level}
 use Rattle.beta_fragment.proofs.EnterLemmas.{body-valid}
 use Rattle.beta_fragment.proofs.MakeLemmas.{and_both, newest}
+use Rattle.beta_fragment.proofs.ReachLemmas.{level-misses}
 
 -- a node is what it was before the heap grew
 node_at-older : (new nodes : List Node) (t : ℕ) → t < length nodes → node_at (new ++ nodes) t ≡ node_at nodes t
@@ -189,6 +190,7 @@ level-made g h l r s e made =
     record {
       term = λ env p. nodes_read h r.index (Level l) env s p at;
       holds = λ d k. nodes_valid h r.index (Level l) d s at ∙ below_true l d k;
+      misses = λ v. level-misses h r.index l v s at;
     }
 
 -- a node that has no moved level

@@ -35,6 +35,7 @@ use Rattle.beta_fragment.specs.Moves.{Value, value_of, Moves, IsLamOf, IsAppOf, 
 use Rattle.beta_fragment.proofs.MakeLemmas.{newest, and_both}
 use Rattle.beta_fragment.proofs.MoveLemmas.{below_true, below_from, moved-places, moved-below, node-before, assigned-before, value-moves}
 use Rattle.beta_fragment.proofs.ReadLemmas.{valid-below}
+use Rattle.beta_fragment.proofs.ReachLemmas.{var-misses}
 
 -- the node of a variable
 pub var-made : (g h : Graph) (v : VarId) (r : TermId) → IsSound h → r.index ≡ length g.nodes → h ≡ record g { nodes = Var v ∷ g.nodes } → value_in g.assigned v.index ≡ None → IsVarOf v.index (slice_index g.depths v.index) (value_of h r)
@@ -49,6 +50,7 @@ var-made g h v r s e made free =
       holds = λ d k. nodes_valid h r.index (Var v) d s at
           ∙ ap (λ (ds : List ℕ). nat_lt (slice_index ds v.index) (suc d)) depths
           ∙ below_true (slice_index g.depths v.index) (suc d) (omega (arith, k));
+      misses = λ w q. var-misses h r.index v w s at none q;
     }
 
 -- the last of so many levels
@@ -99,6 +101,7 @@ pub lam-var : (v d : ℕ) (y x : Value) → IsLamOf d y x → IsVarOf v (suc d) 
 lam-var v d y x w m = record {
   term = λ env p. w.term env p ∙ ap lam (m.term (enter d env) (places-enter d env p)) ∙ abstracted v d env p;
   holds = λ e k. w.holds (m.holds (d + 1) (omega arith)) e k;
+  misses = λ u q. w.misses u (m.misses u q);
 }
 
 -- levels, moved
