@@ -19,6 +19,7 @@ mod levels;
 mod opening;
 mod putting;
 mod quoting;
+mod rebuilding;
 mod renaming;
 mod rigid_form;
 mod settling;
@@ -31,6 +32,7 @@ pub use equality::same_term;
 pub use head::whnf;
 pub use instantiating::instantiate;
 pub use opening::contract;
+pub use rebuilding::rebuild;
 pub use renaming::lift;
 
 #[cfg(test)]
