@@ -168,10 +168,10 @@ stand-grown g h depth s w (a ∷ older) u x k =
 -- one more
 pub stand-more : (g : Graph) (depth to : ℕ) (puts : List TermId) (a : TermId) (u x y : Term) → to ≡ depth + length puts → IsValid g a.index to → ready (read g a.index names) ≡ true → x ≡ fill (put_name to (read g a.index names)) y → StandFor g depth puts u x → StandFor g depth (a ∷ puts) u y
 stand-more g depth to puts a u x y e v r q k = (
-    subst (IsValid g a.index) e v,
-    r,
-    subst (StandFor g depth puts u) (q ∙ ap (λ n. fill (put_name n (read g a.index names)) y) e) k,
-  )
+  subst (IsValid g a.index) e v,
+  r,
+  subst (StandFor g depth puts u) (q ∙ ap (λ n. fill (put_name n (read g a.index names)) y) e) k,
+)
 
 -- nodes that were put
 pub puts-reads : (g h : Graph) (depth : ℕ) (s : Term) (ts rs : List TermId) → ArePut g h depth s ts rs → all_read h rs ≡ map (fill (put_name depth s)) (all_read g ts)
@@ -223,11 +223,11 @@ own-below depth ls long own i h = let lt : i < depth = omega (arith, h, long) in
 -- the form of a term before more arguments
 pub rigid-before : (g : Graph) (depth : ℕ) (u : Term) (head : RigidHead) (first args list : List TermId) → IsHeadForm g depth u (Rigid head first) → AllValidAt g args depth → list ≡ first ++ args → IsHeadForm g depth (apply_all u (all_read g args)) (Rigid head list)
 rigid-before g depth u head first args list k v e = (
-    subst (λ ts. AllValidAt g ts depth) (sym e) (valid-append g depth first args k.0 v),
-    ap (λ z. apply_all z (all_read g args)) k.1
-        ∙ sym (apply_all-append (all_read g first) (all_read g args) (At (rigid_head head)))
-        ∙ ap (apply_all (At (rigid_head head))) (sym (map-append (λ (t : TermId). read g t.index names) first args) ∙ ap (all_read g) (sym e)),
-  )
+  subst (λ ts. AllValidAt g ts depth) (sym e) (valid-append g depth first args k.0 v),
+  ap (λ z. apply_all z (all_read g args)) k.1
+      ∙ sym (apply_all-append (all_read g first) (all_read g args) (At (rigid_head head)))
+      ∙ ap (apply_all (At (rigid_head head))) (sym (map-append (λ (t : TermId). read g t.index names) first args) ∙ ap (all_read g) (sym e)),
+)
 
 -- forms with a node in the place of the name of the depth
 put-form : (g : Graph) (depth : ℕ) (s f x : Term) (args : List TermId) (ys : List Term) → IsBuilt s → ready s ≡ true → x ≡ apply_all f (all_read g args) → ys ≡ map (fill (put_name depth s)) (all_read g args) → fill (put_name depth s) x ≡ apply_all (fill (put_name depth s) f) ys
@@ -325,13 +325,13 @@ ends-found g h depth to head ls args puts u w s gr f e k =
 
 pub stands-grown : (g h : Graph) (depth to : ℕ) (puts : List TermId) (u : Term) (head : ℕ) (ls : List ℕ) (args : List TermId) → IsSound g → Grows g h [] [] → IsValid g head (length ls) → Stands g depth to puts u head ls args → Stands h depth to puts u head ls args
 stands-grown g h depth to puts u head ls args s gr v k = (
-    k.0,
-    stand-grown g h depth s gr puts u k.0 k.1,
-    record {
-      reads = k.2.reads ∙ ap₂ apply_all (ap (λ r. r (renamed ls)) (sym (grown-reads g h s gr head (valid-below g head (length ls) v)))) (sym (read-grown_all g h to s gr (reverse args) k.2.valid));
-      valid = valid-grown_all g h to s gr (reverse args) k.2.valid;
-    },
-  )
+  k.0,
+  stand-grown g h depth s gr puts u k.0 k.1,
+  record {
+    reads = k.2.reads ∙ ap₂ apply_all (ap (λ r. r (renamed ls)) (sym (grown-reads g h s gr head (valid-below g head (length ls) v)))) (sym (read-grown_all g h to s gr (reverse args) k.2.valid));
+    valid = valid-grown_all g h to s gr (reverse args) k.2.valid;
+  },
+)
 
 -- a rigid form is of a ready term
 pub rigid-form_ready : (g : Graph) (depth : ℕ) (u : Term) (form : Whnf) (head : RigidHead) (args : List TermId) → form ≡ Rigid head args → IsHeadForm g depth u form → ready u ≡ true

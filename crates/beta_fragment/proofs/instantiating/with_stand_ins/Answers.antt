@@ -11,8 +11,6 @@ use Rattle.beta_fragment.proofs.HeadLemmas.{renamed-node, renamed-valid}
 use Rattle.beta_fragment.proofs.InstantLemmas.{put-anywhere, begins-own, begins-renamed, stand-move}
 use Rattle.beta_fragment.proofs.instantiating.with_stand_ins.Goals as goal
 
-
-
 pub returns-then-from-to-clause-grows : goal.returns-then-from-to-clause-grows
 returns-then-from-to-clause-grows c = grows-refl c.args.heap.now []
 
@@ -25,7 +23,6 @@ returns-in_err-levels-clause-grows c = grows-refl c.args.heap.now []
 pub moved_node-requires-clause-moves : goal.moved_node-requires-clause-moves
 moved_node-requires-clause-moves c = stand-move c.args.from c.args.to c.args.count c.in_ok-end.end c.in_ok-levels.levels c.requires.low c.in_ok-end.ensures c.in_ok-levels.ensures.count c.in_ok-levels.ensures.own c.in_ok-levels.ensures.more
 
-
 pub returns-clause-reads : goal.returns-clause-reads
 returns-clause-reads c = IfOk-weaker c.moved_node.result _ _
     (λ r m ss long.
@@ -35,4 +32,3 @@ returns-clause-reads c = IfOk-weaker c.moved_node.result _ _
     (begins-renamed c.args.from c.args.to (length ss) c.in_ok-levels.levels c.in_ok-levels.ensures.own (λ j h. c.in_ok-levels.ensures.more j (omega (arith, h, long))))
     (begins-own c.args.from (length ss)))
     c.moved_node.ensures.moves
-

@@ -36,4 +36,4 @@ pub returns-in-None : goal.returns-in-None
 returns-in-None c =
     let none = empty-list c.push_next.new.work.items (omega (arith, c.push_next.new.work.ok, c.in-None.ensures.cases.0)) in
     λ e. c.loop-own.invariant.leads (turn-unreached c.args.heap.now c.is_sound.ensures c.args.v.index c.loop-own.work.items c.loop-own.node c.push_next.new.work.items c.in_ok-push_next.ensures
-        (c.is_own-own.ensures c.if-own.false) (subst (AllUnreached c.args.heap.now c.args.v.index) (sym none) tt))
+    (c.is_own-own.ensures c.if-own.false) (subst (AllUnreached c.args.heap.now c.args.v.index) (sym none) tt))
