@@ -28,12 +28,11 @@ use Rattle.level_terms.specs.Valid.{valid}
 use Rattle.level_terms.proofs.ValidLemmas.{nodes_valid, valid_deeper}
 use Rattle.beta_fragment.specs.declared.glance.Readiness.{Readiness}
 use Rattle.beta_fragment.specs.declared.glance.Readiness.TheVariants.{Level as some_level, Ready, Unready, Unknown}
-use Rattle.beta_fragment.specs.Moves.{value_of, IsLamOf, IsVarOf}
-use Rattle.beta_fragment.proofs.MakeLemmas.{and_both}
-use Rattle.beta_fragment.proofs.MoveLemmas.{below_true}
+use Rattle.level_terms.specs.Values.{value_of, IsLamOf, IsVarOf}
+use Rattle.level_terms.proofs.MakeLemmas.{and_both, below_true}
 use Rattle.beta_fragment.specs.HeadForm.{IsAbstraction}
 use Rattle.beta_fragment.specs.Firm.{IsPlain, IsReadyNode, IsOpenNode, IsFirmHead, IsFirm, IsFirmNode, IsPlainNode, IsAbstractionNode, EndsOtherwise, IsOther, IsReadiness}
-use Rattle.beta_fragment.proofs.ReadLemmas.{read-follows, places-ready}
+use Rattle.level_terms.proofs.ReadLemmas.{read-follows, places-ready}
 use Rattle.ref_terms.specs.laws.ReadyLaws.{IsRigidHead}
 use Rattle.ref_terms.specs.lemmas.ReadyFacts.{ready-var, ready-lam}
 

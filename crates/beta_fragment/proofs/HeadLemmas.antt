@@ -16,8 +16,9 @@ use Rattle.ref_terms.specs.terms.Term.{Term, At}
 use Rattle.ref_terms.specs.unification.Spine.{apply_all}
 use Rattle.beta_fragment.specs.Names.{names, renamed, AllBelow}
 use Rattle.beta_fragment.specs.HeadForm.{AllValidAt, all_read}
-use Rattle.beta_fragment.specs.Moves.{Value, value_of, Moves, moved, moved_level}
-use Rattle.beta_fragment.proofs.ReadLemmas.{valid-below, grown-reads}
+use Rattle.level_terms.specs.Values.{Value, value_of, IsVarOf, IsLamOf}
+use Rattle.beta_fragment.specs.Moves.{Moves, moved, moved_level, AreLevelsOf, IsMove}
+use Rattle.level_terms.proofs.ReadLemmas.{valid-below, grown-reads}
 use Rattle.beta_fragment.proofs.EnterLemmas.{names-places}
 use Rattle.std.specs.List.{list_all}
 use Rattle.std.proofs.Common.{eqb-true}
@@ -30,13 +31,12 @@ use Rattle.level_terms.proofs.CoverLemmas.{places-enter}
 use Rattle.level_terms.proofs.ValidLemmas.{nodes_valid, valid_deeper}
 use Rattle.ref_terms.specs.terms.Index.{shift}
 use Rattle.ref_terms.specs.terms.Eta.{lam}
-use Rattle.beta_fragment.specs.Moves.{IsVarOf, AreLevelsOf, IsMove, IsLamOf}
 use Rattle.beta_fragment.specs.Firm.{IsSpine}
 use Rattle.beta_fragment.proofs.EnterLemmas.{body-valid}
-use Rattle.beta_fragment.proofs.MakeLemmas.{apply_all-append}
+use Rattle.level_terms.proofs.MakeLemmas.{apply_all-append, below_true}
 use Rattle.beta_fragment.proofs.StayLemmas.{lam-stays}
 use Rattle.beta_fragment.proofs.VarLemmas.{levels-terms, levels-hold, levels-agree, enter-own, enter-other}
-use Rattle.beta_fragment.proofs.MoveLemmas.{below_true, below_from}
+use Rattle.beta_fragment.proofs.MoveLemmas.{below_from}
 
 pub renamed-places : (ls : List ℕ) → ArePlaces (renamed ls)
 renamed-places ls i = tt

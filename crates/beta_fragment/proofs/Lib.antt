@@ -1,6 +1,4 @@
-pub mod ReadLemmas
 pub mod EnterLemmas
-pub mod MakeLemmas
 pub mod MoveLemmas
 pub mod WorkLemmas
 pub mod VisitLemmas

@@ -7,9 +7,10 @@ use Rattle.level_terms.specs.Reading.{read}
 use Rattle.level_terms.proofs.LocalLemmas.{readings_local}
 use Rattle.ref_terms.specs.terms.Term.{Term}
 use Rattle.beta_fragment.specs.Names.{names, renamed, AllBelow}
-use Rattle.beta_fragment.specs.Moves.{Value, Moves, moved, IsMove}
+use Rattle.level_terms.specs.Values.{Value}
+use Rattle.beta_fragment.specs.Moves.{Moves, moved, IsMove}
 use Rattle.beta_fragment.proofs.EnterLemmas.{names-places}
-use Rattle.beta_fragment.proofs.MoveLemmas.{below_true}
+use Rattle.level_terms.proofs.MakeLemmas.{below_true}
 
 take-long : (ns : List ℕ) (n : ℕ) → n ≤ length ns → length (take n ns) ≡ n
 take-long ns zero h = refl

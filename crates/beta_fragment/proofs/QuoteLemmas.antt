@@ -26,13 +26,14 @@ use Rattle.ref_terms.specs.lemmas.NameLemmas.{nat_eq_self}
 use Rattle.beta_fragment.specs.Names.{names}
 use Rattle.beta_fragment.specs.declared.answer.RigidHead.{RigidHead}
 use Rattle.beta_fragment.specs.HeadForm.{rigid_head}
-use Rattle.beta_fragment.specs.Moves.{Value, value_of, IsLamOf, IsAppOf, IsLevelOf, IsVarOf, put_name}
+use Rattle.level_terms.specs.Values.{Value, value_of, IsLamOf, IsAppOf, IsLevelOf, IsVarOf}
+use Rattle.beta_fragment.specs.Moves.{put_name}
 use Rattle.beta_fragment.specs.Quoted.{AllNamesBelow, put_head, names_with, IsValidIfAny}
 use Rattle.beta_fragment.specs.Quoting.{within, heads_below, Quotes, IsHeadOf, Setting, heads_of, AllQuote, app_to, items_of}
-use Rattle.beta_fragment.proofs.ReadLemmas.{read-follows, valid-below, grown-reads}
+use Rattle.level_terms.proofs.ReadLemmas.{read-follows, valid-below, grown-reads}
 use Rattle.beta_fragment.proofs.EnterLemmas.{names-places}
 use Rattle.beta_fragment.proofs.VarLemmas.{enter-own, enter-other}
-use Rattle.beta_fragment.proofs.MakeLemmas.{and_both, newest}
+use Rattle.level_terms.proofs.MakeLemmas.{and_both, newest}
 use Rattle.beta_fragment.proofs.MoveLemmas.{above_from, below_from}
 
 -- what the levels stand for

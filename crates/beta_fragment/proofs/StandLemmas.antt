@@ -30,9 +30,9 @@ use Rattle.level_terms.specs.declared.node.VarId.{VarId}
 use Rattle.beta_fragment.specs.Firm.{IsSpine}
 use Rattle.beta_fragment.specs.Turn.{GoesOn, TakesOn, FirstReady, IsFirstArg}
 use Rattle.beta_fragment.specs.Standing.{StandFor, ArePut, HasForm, FoundAs}
-use Rattle.beta_fragment.proofs.ReadLemmas.{read-built, valid-below, grown-reads}
+use Rattle.level_terms.proofs.ReadLemmas.{read-built, valid-below, grown-reads}
 use Rattle.beta_fragment.proofs.EnterLemmas.{body-applied, body-valid}
-use Rattle.beta_fragment.proofs.MakeLemmas.{parts-there, apply_all-append}
+use Rattle.level_terms.proofs.MakeLemmas.{parts-there, apply_all-append}
 use Rattle.beta_fragment.proofs.MoveLemmas.{node-before, assigned-before}
 use Rattle.beta_fragment.proofs.WorkLemmas.{lam-size}
 use Rattle.beta_fragment.proofs.NamelessLemmas.{nameless-read}

@@ -10,7 +10,7 @@ use Rattle.ref_terms.specs.terms.Apply.{below, fill}
 use Rattle.beta_fragment.specs.declared.quoting.Task.{Task}
 use Rattle.beta_fragment.specs.declared.quoting.Task.TheVariants.{Visit, Lam, App}
 use Rattle.beta_fragment.specs.Names.{names}
-use Rattle.beta_fragment.specs.Moves.{Value, value_of}
+use Rattle.level_terms.specs.Values.{Value, value_of}
 use Rattle.beta_fragment.specs.Cells.{term_at}
 use Rattle.beta_fragment.specs.Quoted.{AllIndicesBelow, AllNamesBelow, AllHeads, IsOpenHead, put_head, names_with}
 

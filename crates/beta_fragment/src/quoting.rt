@@ -15,7 +15,7 @@ ghost use Rattle.ref_terms.specs.terms.Apply.{fill};
 ghost use Rattle.beta_fragment.specs.Names.{names};
 ghost use Rattle.beta_fragment.specs.Body.{IsLam};
 ghost use Rattle.beta_fragment.specs.HeadForm.{IsAbstraction, rigid_head};
-ghost use Rattle.beta_fragment.specs.Moves.{value_of};
+ghost use Rattle.level_terms.specs.Values.{value_of};
 ghost use Rattle.beta_fragment.specs.Cells.{terms_of, term_at};
 ghost use Rattle.beta_fragment.specs.Quoted.{AllIndicesBelow, AllNamesBelow, AllHeads, IsOpenHead, put_head, names_with, IsValidIfAny};
 ghost use Rattle.beta_fragment.specs.Quoting.{Quotes, IsHeadOf, Item, Setting, set_for, CanVisit, IsQuoting, tasks_size, IsReady};
@@ -26,8 +26,8 @@ ghost use Rattle.beta_fragment.specs.declared.quoting.Task.TheVariants.{Visit as
 
 use crate::answer::RigidHead;
 use crate::cells::{Cell, Cells};
-use crate::renaming::{applied, bare_var, made_lam, made_level, sum_of};
-use level_terms::{Heap, TermId};
+use crate::renaming::{bare_var, sum_of};
+use level_terms::{Heap, TermId, applied, made_lam, made_level};
 use ref_terms::Sym;
 use std::alloc::{AllocError, Global};
 

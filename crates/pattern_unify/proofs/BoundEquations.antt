@@ -10,7 +10,7 @@ use Rattle.ref_terms.specs.unification.Problem as problem
 use Rattle.ref_terms.specs.unification.Problem.{Goes}
 use Rattle.ref_terms.specs.unification.Bind.{inst_equation}
 use Rattle.beta_fragment.specs.Names.{names}
-use Rattle.beta_fragment.proofs.ReadLemmas.{valid-below}
+use Rattle.level_terms.proofs.ReadLemmas.{valid-below}
 use Rattle.pattern_unify.specs.declared.equation.Equation.{Equation}
 use Rattle.pattern_unify.specs.Answers.{bound}
 use Rattle.pattern_unify.specs.Bound.{IsBound}

@@ -16,7 +16,7 @@ use Rattle.ref_terms.specs.unification.Shape as shape
 use Rattle.ref_terms.specs.unification.Shape.{Shape, shape}
 use Rattle.beta_fragment.specs.Names.{names}
 use Rattle.beta_fragment.proofs.HeadLemmas.{valid-grown_all, read-grown_all}
-use Rattle.beta_fragment.proofs.ReadLemmas.{valid-below}
+use Rattle.level_terms.proofs.ReadLemmas.{valid-below}
 use Rattle.pattern_unify.specs.declared.equation.Equation.{Equation}
 use Rattle.pattern_unify.specs.declared.equation.Turn.{Turn}
 use Rattle.pattern_unify.specs.declared.equation.Turn.TheVariants as turn

@@ -9,7 +9,7 @@ use Rattle.level_terms.proofs.ValidLemmas.{growth_keeps_valid}
 use Rattle.ref_terms.specs.terms.Ready.{ready}
 use Rattle.beta_fragment.specs.HeadForm.{AllValidAt}
 use Rattle.beta_fragment.proofs.HeadLemmas.{valid-grown_all}
-use Rattle.beta_fragment.proofs.ReadLemmas.{valid-below, grown-reads}
+use Rattle.level_terms.proofs.ReadLemmas.{valid-below, grown-reads}
 use Rattle.beta_fragment.proofs.TurnLemmas.{first-spine, first-moves}
 use Rattle.std.proofs.lemmas.List.{length-reverse}
 use Rattle.std.proofs.lemmas.Result.{IfOk-weaker}

@@ -6,11 +6,11 @@ use Rattle.ref_terms.specs.terms.Term as term
 use Rattle.ref_terms.specs.terms.Apply.{fill}
 use Rattle.beta_fragment.specs.Body.{IsLam}
 use Rattle.beta_fragment.specs.HeadForm.{IsAbstraction}
-use Rattle.beta_fragment.specs.Moves.{value_of}
+use Rattle.level_terms.specs.Values.{value_of}
 use Rattle.beta_fragment.specs.Cells.{terms_of, term_at, cell_term}
 use Rattle.beta_fragment.specs.Quoted.{put_head}
 use Rattle.beta_fragment.specs.Quoting.{MayStand, set_for}
-use Rattle.beta_fragment.proofs.ReadLemmas.{valid-below}
+use Rattle.level_terms.proofs.ReadLemmas.{valid-below}
 use Rattle.beta_fragment.proofs.QuoteLemmas.{quotes-lam}
 use Rattle.beta_fragment.proofs.QuoteWork.{stand-body, body-there, no_abstraction}
 use Rattle.beta_fragment.proofs.quoting.quoted.Goals as goal

@@ -11,7 +11,7 @@ use Rattle.beta_fragment.specs.declared.answer.RigidHead.{RigidHead}
 use Rattle.beta_fragment.specs.declared.answer.RigidHead.TheVariants.{Con, Int, Str}
 use Rattle.beta_fragment.specs.HeadForm.{rigid_head}
 use Rattle.beta_fragment.specs.Quoted.{AllNamesBelow, names_with}
-use Rattle.beta_fragment.specs.Moves.{value_of}
+use Rattle.level_terms.specs.Values.{value_of}
 use Rattle.beta_fragment.proofs.QuoteLemmas.{quotes-rigid}
 use Rattle.beta_fragment.proofs.quoting.rigid_node.Goals as goal
 

@@ -9,7 +9,7 @@ use Rattle.ref_terms.specs.terms.Apply.{fill}
 use Rattle.beta_fragment.specs.Moves.{put_name}
 use Rattle.beta_fragment.specs.Names.{names}
 use Rattle.beta_fragment.specs.HeadForm.{IsHeadForm, all_read, rigid_head}
-use Rattle.beta_fragment.proofs.ReadLemmas.{read-built, valid-below, grown-reads}
+use Rattle.level_terms.proofs.ReadLemmas.{read-built, valid-below, grown-reads}
 use Rattle.beta_fragment.proofs.HeadLemmas.{valid-grown_all}
 use Rattle.beta_fragment.proofs.StandLemmas.{put-here, put-other, with-rigid, with-flex, redex-valid, with-redex}
 use Rattle.beta_fragment.proofs.standing.with_put.Goals as goal
