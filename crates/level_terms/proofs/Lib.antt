@@ -17,3 +17,6 @@ pub mod TreeLemmas
 pub mod ValidLemmas
 pub mod ReadLemmas
 pub mod MakeLemmas
+pub mod MarkLemmas
+pub mod GroundLemmas
+pub mod GainLemmas
