@@ -6,6 +6,7 @@ use Rattle.level_terms.specs.declared.node.TermId.{TermId}
 use Rattle.level_terms.specs.Graph.{Graph, node_at}
 use Rattle.level_terms.specs.Laws.{ArePlaces}
 use Rattle.level_terms.specs.Sound.{IsSound}
+use Rattle.level_terms.specs.Reached.{tree, reaches}
 use Rattle.level_terms.specs.Valid.{IsValid}
 use Rattle.level_terms.specs.Reading.{read, enter}
 use Rattle.level_terms.specs.Growth.{Grows}
@@ -99,7 +100,7 @@ valid-append g d (x ∷ xs) ys v w = (v.0, valid-append g d xs ys v.1 w)
 moved-name : (ls : List ℕ) (to i : ℕ) → i < length ls → moved_level ls (length ls) to i ≡ slice_index ls i
 moved-name ls to i h = ap (λ b. cond b (slice_index ls i) (i - length ls + to)) (below_true i (length ls) h)
 
-pub flex-reads : (g h : Graph) (depth count : ℕ) (u : Term) (t v : ℕ) (ls : List ℕ) (args first list : List TermId) → IsSound g → Grows g h [] [] → IsVarOf v count (record { term = read g t; holds = valid g.nodes g.depths t }) → count ≤ length ls → AllBelow ls depth →
+pub flex-reads : (g h : Graph) (depth count : ℕ) (u : Term) (t v : ℕ) (ls : List ℕ) (args first list : List TermId) → IsSound g → Grows g h [] [] → IsVarOf v count (record { term = read g t; holds = valid g.nodes g.depths t; reached = λ v. reaches v (tree g t) }) → count ≤ length ls → AllBelow ls depth →
     AreLevelsOf ls (length ls) depth 0 (map (value_of h) first) → length first ≡ count → list ≡ first ++ reverse args → IsSpine g depth u t ls args →
     AllValidAt h list depth × (u ≡ apply_all (At (term.Var v)) (all_read h list))
 flex-reads g h depth count u t v ls args first list sound w m few all levels_of long e spine =

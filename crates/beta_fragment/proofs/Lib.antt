@@ -29,6 +29,7 @@ pub mod TakingSteps
 pub mod ApplyingLemmas
 pub mod QuoteLemmas
 pub mod QuoteWork
+pub mod RebuildLemmas
 pub mod OpenHeadLemmas
 pub mod EvaluationLemmas
 pub mod ArgumentLemmas

@@ -1,6 +1,7 @@
 -- Names that a list renames.
 use Rattle.std.proofs.Common.{◌≡◌, ℕ, zero, suc, ◌<◌, ◌≤◌, ◌-◌, ◌+◌, List, [], ◌∷◌, length, take, slice_index, cond, refl, ap, ◌∙◌, arith, sym}
 use Rattle.level_terms.specs.Graph.{Graph}
+use Rattle.level_terms.specs.Reached.{tree, reaches}
 use Rattle.level_terms.specs.Valid.{valid, IsValid}
 use Rattle.level_terms.proofs.ValidLemmas.{valid_deeper}
 use Rattle.level_terms.specs.Reading.{read}
@@ -46,7 +47,7 @@ lift-move ns n fixed to all few stay below =
     record { below = front; few = few; low = stay-low (take n ns) fixed to few stay front; stay = stay }
 
 -- a node all of whose levels stay
-pub all-stay : (g : Graph) (ns : List ℕ) (fixed to t : ℕ) → IsMove ns fixed to → fixed ≡ length ns → IsValid g t (length ns) → Moves g ns to t (length ns) (length ns) (record { term = read g t; holds = valid g.nodes g.depths t })
+pub all-stay : (g : Graph) (ns : List ℕ) (fixed to t : ℕ) → IsMove ns fixed to → fixed ≡ length ns → IsValid g t (length ns) → Moves g ns to t (length ns) (length ns) (record { term = read g t; holds = valid g.nodes g.depths t; reached = λ v. reaches v (tree g t) })
 all-stay g ns fixed to t m all v = record {
   term = λ env p. readings_local g t (length ns) env (moved ns (length ns) to env) v (λ i k. same env i k);
   holds = λ e le. let low = m.low in valid_deeper g t (length ns) e v (omega (arith, le, all, low));

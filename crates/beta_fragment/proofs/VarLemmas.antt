@@ -85,6 +85,7 @@ pub lam-var : (v d : ℕ) (y x : Value) → IsLamOf d y x → IsVarOf v (suc d) 
 lam-var v d y x w m = record {
   term = λ env p. w.term env p ∙ ap lam (m.term (enter d env) (places-enter d env p)) ∙ abstracted v d env p;
   holds = λ e k. w.holds (m.holds (d + 1) (omega arith)) e k;
+  misses = λ u q. w.misses u (m.misses u q);
 }
 
 -- levels, moved

@@ -18,6 +18,7 @@ mod levels;
 mod opening;
 mod putting;
 mod quoting;
+mod rebuilding;
 mod renaming;
 mod rigid_form;
 mod settling;
@@ -29,6 +30,7 @@ pub use body::enter;
 pub use equality::same_term;
 pub use head::whnf;
 pub use opening::contract;
+pub use rebuilding::rebuild;
 pub use renaming::lift;
 
 #[cfg(test)]

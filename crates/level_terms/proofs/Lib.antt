@@ -16,6 +16,7 @@ pub mod ConstantLemmas
 pub mod TreeLemmas
 pub mod ValidLemmas
 pub mod ReadLemmas
+pub mod ReachLemmas
 pub mod MakeLemmas
 pub mod MarkLemmas
 pub mod GroundLemmas

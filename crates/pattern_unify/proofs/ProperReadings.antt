@@ -27,7 +27,7 @@ use Rattle.pattern_unify.specs.Answers.{problem_of}
 use Rattle.pattern_unify.specs.Unifiers.{IsMostGeneral, IsWithoutUnifier}
 use Rattle.pattern_unify.proofs.AbsentLemmas.{absent-apply, absent-fill}
 use Rattle.pattern_unify.proofs.ClosedTerms.{read-lacks}
-use Rattle.pattern_unify.proofs.UnreachedLemmas.{occurs-ren, occurs-lam}
+use Rattle.pattern_unify.proofs.OccursLemmas.{occurs-ren, occurs-lam}
 
 -- the variable stands in no term that a level stands for
 abbrev AreWithout : ℕ → (ℕ → Term) → Type 0

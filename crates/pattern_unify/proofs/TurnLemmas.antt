@@ -22,7 +22,7 @@ use Rattle.pattern_unify.specs.declared.equation.Turn.{Turn}
 use Rattle.pattern_unify.specs.declared.equation.Turn.TheVariants as turn
 use Rattle.pattern_unify.specs.declared.side.Side.{Side}
 use Rattle.pattern_unify.specs.declared.side.Side.TheVariants.{Abstraction, Redex, Rigid, Flexible}
-use Rattle.pattern_unify.specs.Answers.{bound}
+use Rattle.ref_terms.specs.search.Branch.{bound}
 use Rattle.pattern_unify.specs.Equations.{equation_at, equations_at, problem_at, IsValidEquation, AllValidEquations}
 use Rattle.pattern_unify.specs.Sides.{head_at, shape_at, IsSideAt}
 use Rattle.pattern_unify.specs.Turns.{GoesOn, IsTurn, rule_at}
