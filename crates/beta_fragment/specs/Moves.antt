@@ -5,7 +5,6 @@ use Rattle.level_terms.specs.declared.node.TermId.{TermId}
 use Rattle.level_terms.specs.Graph.{Graph}
 use Rattle.level_terms.specs.Laws.{ArePlaces}
 use Rattle.level_terms.specs.Valid.{valid}
-use Rattle.level_terms.specs.Reached.{tree, reaches}
 use Rattle.level_terms.specs.Reading.{read, enter, levels}
 use Rattle.ref_terms.specs.terms.Term.{Term, Head, At, Var, Name}
 use Rattle.ref_terms.specs.terms.Apply.{fill}

@@ -8,6 +8,7 @@ use Rattle.level_terms.specs.Graph.{Graph, node_at, value_in}
 use Rattle.level_terms.specs.Reached.{tree, tree_size, IsUnreached}
 use Rattle.level_terms.specs.Sound.{IsSound, AllOlder}
 use Rattle.level_terms.proofs.FoldLemmas.{parts_of}
+use Rattle.level_terms.proofs.GroundLemmas.{ground_normal-unreached}
 use Rattle.level_terms.proofs.NodeLemmas.{value-valid}
 use Rattle.level_terms.proofs.TreeLemmas.{value_below}
 use Rattle.level_terms.specs.Values.{value_of, AllMiss}
@@ -15,7 +16,7 @@ use Rattle.level_terms.proofs.MakeLemmas.{parts-there, older-append, older-front
 use Rattle.level_terms.proofs.ReachLemmas.{leaf-misses, lam-misses, app-misses, var-misses, value-misses}
 use Rattle.level_terms.proofs.ReadLemmas.{valid-below}
 use Rattle.beta_fragment.proofs.WorkLemmas.{size-some, total, app-size, lam-size}
-use Rattle.pattern_unify.specs.Reaching.{value_node, next_nodes, HasNext, AllUnreached}
+use Rattle.pattern_unify.specs.Reaching.{value_node, next_nodes, HasNext, IsLeft, bare, with_next, AllUnreached}
 
 all-miss : (g : Graph) (v : ℕ) (ts : List TermId) → AllUnreached g v ts → AllMiss v (map (value_of g) ts)
 all-miss g v [] w = tt
@@ -82,17 +83,24 @@ unreached-back g v [] ys a = a
 unreached-back g v (x ∷ xs) ys a = unreached-back g v xs ys a.1
 
 -- one turn, at a node before the work that is left
-module _ (g : Graph) (sound : IsSound g) (v : ℕ) (rest : List TermId) (t : TermId) (later : List TermId) (next : HasNext g t.index rest later) where
-  pub turn-unreached : ((w : VarId) → node_at g.nodes t.index ≡ Some (Var w) → nat_eq v w.index ≡ false) → AllUnreached g v later → AllUnreached g v (rest ++ t ∷ [])
-  turn-unreached other all =
+module _ (g : Graph) (sound : IsSound g) (v : ℕ) (rest : List TermId) (t : TermId) (later : List TermId) where
+  pub turn-unreached : IsLeft g t.index rest later → ((w : VarId) → node_at g.nodes t.index ≡ Some (Var w) → nat_eq v w.index ≡ false) → AllUnreached g v later → AllUnreached g v (rest ++ t ∷ [])
+  turn-unreached (bare ground e) other all = unreached-append g v rest (t ∷ []) (subst (AllUnreached g v) e all) (ground_normal-unreached g t.index v ground, tt)
+  turn-unreached (with_next next) other all =
       let both = subst (AllUnreached g v) next.pushed all in
       unreached-append g v rest (t ∷ []) (unreached-front g v rest (next_nodes g next.node) both) (next-unreached g v t.index next.node sound next.here other (unreached-back g v rest (next_nodes g next.node) both), tt)
 
-  pub turn-there : AllOlder (length g.nodes) (rest ++ t ∷ []) → AllOlder (length g.nodes) later
-  turn-there w = subst (AllOlder (length g.nodes)) (sym next.pushed) (older-append (length g.nodes) rest (next_nodes g next.node) (older-front (length g.nodes) rest (t ∷ []) w) (next-there g t.index next.node sound next.here))
+  pub turn-there : IsLeft g t.index rest later → AllOlder (length g.nodes) (rest ++ t ∷ []) → AllOlder (length g.nodes) later
+  turn-there (bare ground e) w = subst (AllOlder (length g.nodes)) (sym e) (older-front (length g.nodes) rest (t ∷ []) w)
+  turn-there (with_next next) w = subst (AllOlder (length g.nodes)) (sym next.pushed) (older-append (length g.nodes) rest (next_nodes g next.node) (older-front (length g.nodes) rest (t ∷ []) w) (next-there g t.index next.node sound next.here))
 
-  pub turn-smaller : total g later < total g (rest ++ t ∷ [])
-  turn-smaller =
+  pub turn-smaller : IsLeft g t.index rest later → total g later < total g (rest ++ t ∷ [])
+  turn-smaller (bare ground e) =
+      let a = ap (total g) e in
+      let b = total-append g rest (t ∷ []) in
+      let s = size-some (tree g t.index) in
+      omega (arith, a, b, s)
+  turn-smaller (with_next next) =
       let a = ap (total g) next.pushed ∙ total-append g rest (next_nodes g next.node) in
       let b = total-append g rest (t ∷ []) in
       let s = next-smaller g t.index next.node sound next.here in

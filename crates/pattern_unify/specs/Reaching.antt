@@ -4,6 +4,7 @@ use Rattle.level_terms.specs.declared.node.Node.{Node}
 use Rattle.level_terms.specs.declared.node.Node.TheVariants.{Lam, App, Var}
 use Rattle.level_terms.specs.declared.node.TermId.{TermId}
 use Rattle.level_terms.specs.Graph.{Graph, node_at, value_in}
+use Rattle.level_terms.specs.GroundNormal.{IsGroundNormal}
 use Rattle.level_terms.specs.Reached.{IsUnreached}
 
 -- a value, if there is one
@@ -23,6 +24,11 @@ pub record HasNext (g : Graph) (t : ℕ) (rest later : List TermId) : Type 0 whe
   pub node : Node
   pub here : node_at g.nodes t ≡ Some node
   pub pushed : later ≡ rest ++ next_nodes g node
+
+-- what is left after a look at a node: none is added where neither a variable nor an applied abstraction stands in it
+pub data IsLeft (g : Graph) (t : ℕ) (rest later : List TermId) : Type 0 where
+  bare : IsGroundNormal g t → later ≡ rest → IsLeft g t rest later
+  with_next : HasNext g t rest later → IsLeft g t rest later
 
 -- the variable is reached from none of these
 abbrev pub AllUnreached : Graph → (v : ℕ) → List TermId → Type 0

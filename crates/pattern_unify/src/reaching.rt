@@ -13,7 +13,7 @@ ghost use Rattle.level_terms.specs.declared.node.VarId.{VarId as Variable};
 ghost use Rattle.level_terms.specs.declared.node.Node.TheVariants.{Var as var_node};
 ghost use Rattle.ref_terms.specs.terms.Occurs.{occurs};
 ghost use Rattle.beta_fragment.specs.Names.{names};
-ghost use Rattle.pattern_unify.specs.Reaching.{value_node, HasNext};
+ghost use Rattle.pattern_unify.specs.Reaching.{value_node, HasNext, IsLeft};
 
 use beta_fragment::rebuild;
 use level_terms::{Heap, Node, TermId, VarId};
@@ -43,9 +43,11 @@ pub(crate) fn node_without(
 }
 
 /// Whether the variable is reached from the node, through values and through what reduction drops.
+/// Looks at no more nodes than are in the node's tree, and at none below a part that has neither a
+/// variable nor an applied abstraction.
 fn is_reached(alloc: Global, heap: &Heap, v: VarId, t: TermId) -> Result<bool, AllocError>
-    requires there { t.index < length heap.now.nodes }
-    ensures unreached { IfOk result (λ b. b ≡ false → IsUnreached heap.now v.index t.index) }
+    requires { t.index < length heap.now.nodes }
+    ensures { IfOk result (λ b. b ≡ false → IsUnreached heap.now v.index t.index) }
 {
     heap.is_sound();
     let mut work = Vec::new(alloc);
@@ -55,7 +57,7 @@ fn is_reached(alloc: Global, heap: &Heap, v: VarId, t: TermId) -> Result<bool, A
         if own {
             return Ok(true);
         }
-        push_next(heap, node, &mut work)?;
+        push_parts(heap, node, &mut work)?;
         match work.pop() {
             Some(next) => node = next,
             None => return Ok(false),
@@ -65,8 +67,8 @@ fn is_reached(alloc: Global, heap: &Heap, v: VarId, t: TermId) -> Result<bool, A
 
 /// Whether the node is the variable's.
 fn is_own(heap: &Heap, v: VarId, node: TermId) -> bool
-    requires there { node.index < length heap.now.nodes }
-    ensures other { result ≡ false → (w : Variable) → node_at heap.now.nodes node.index ≡ Some (var_node w) → nat_eq v.index w.index ≡ false }
+    requires { node.index < length heap.now.nodes }
+    ensures { result ≡ false → (w : Variable) → node_at heap.now.nodes node.index ≡ Some (var_node w) → nat_eq v.index w.index ≡ false }
 {
     match heap.view(node) {
         Node::Var(w) => v.index == w.index,
@@ -74,10 +76,22 @@ fn is_own(heap: &Heap, v: VarId, node: TermId) -> bool
     }
 }
 
+/// Puts the nodes that are reached from a node at once onto the work list, but for those of a node in
+/// which neither a variable nor an applied abstraction stands: that one isn't looked into.
+fn push_parts(heap: &Heap, node: TermId, work: &mut Vec<TermId>) -> Result<(), AllocError>
+    requires { node.index < length heap.now.nodes }
+    ensures { OnOk result (IsLeft heap.now node.index work.old.items work.new.items) }
+{
+    if heap.is_ground_normal(node) {
+        return Ok(());
+    }
+    push_next(heap, node, work)
+}
+
 /// Puts the nodes that are reached from a node at once onto the work list.
 fn push_next(heap: &Heap, node: TermId, work: &mut Vec<TermId>) -> Result<(), AllocError>
-    requires there { node.index < length heap.now.nodes }
-    ensures next { OnOk result (HasNext heap.now node.index work.old.items work.new.items) }
+    requires { node.index < length heap.now.nodes }
+    ensures { OnOk result (HasNext heap.now node.index work.old.items work.new.items) }
 {
     heap.is_sound();
     match heap.view(node) {
@@ -100,8 +114,8 @@ fn push_next(heap: &Heap, node: TermId, work: &mut Vec<TermId>) -> Result<(), Al
 
 /// Puts the value of a variable onto the work list, if it has one.
 fn push_value(heap: &Heap, v: VarId, work: &mut Vec<TermId>) -> Result<(), AllocError>
-    requires known { v.index < length heap.now.depths }
-    ensures next { OnOk result (work.new.items ≡ work.old.items ++ value_node (value_in heap.now.assigned v.index)) }
+    requires { v.index < length heap.now.depths }
+    ensures { OnOk result (work.new.items ≡ work.old.items ++ value_node (value_in heap.now.assigned v.index)) }
 {
     match heap.value(v) {
         Some(value) => {
