@@ -21,7 +21,7 @@ use Rattle.ref_terms.specs.lemmas.FillLemmas.{apply-lam}
 use Rattle.ref_terms.specs.lemmas.TermLemmas.{sub-ren, sub_id}
 use Rattle.beta_fragment.specs.Names.{names}
 use Rattle.beta_fragment.specs.Body.{IsLamAt}
-use Rattle.beta_fragment.proofs.ReadLemmas.{read-built, read-follows, places-ready}
+use Rattle.level_terms.proofs.ReadLemmas.{read-built, read-follows, places-ready}
 
 -- the term in place of index 0, the others one lower
 pub first-places : (x : Term) → IsPlace x → ArePlaces (first x)

@@ -18,12 +18,14 @@ use Rattle.ref_terms.specs.lemmas.ComposeLemmas.{fill-shift}
 use Rattle.ref_terms.specs.lemmas.NameLemmas.{fill-agree_names}
 use Rattle.beta_fragment.specs.Names.{names, renamed}
 use Rattle.beta_fragment.specs.Body.{at_name, opened_reads}
-use Rattle.beta_fragment.specs.Moves.{value_of, Puts, around, put_name, Lacks}
+use Rattle.level_terms.specs.Values.{value_of}
+use Rattle.beta_fragment.specs.Moves.{Puts, around, put_name, Lacks}
 use Rattle.beta_fragment.specs.Quoted.{AllHeads, IsOpenHead, put_head}
 use Rattle.beta_fragment.specs.Settled.{IsQuotable}
-use Rattle.beta_fragment.proofs.ReadLemmas.{read-follows}
+use Rattle.level_terms.proofs.ReadLemmas.{read-follows}
 use Rattle.beta_fragment.proofs.EnterLemmas.{entered, first-places}
-use Rattle.beta_fragment.proofs.MoveLemmas.{below_true, below_false}
+use Rattle.level_terms.proofs.MakeLemmas.{below_true}
+use Rattle.beta_fragment.proofs.MoveLemmas.{below_false}
 use Rattle.beta_fragment.proofs.NamelessLemmas.{lacks-enter, nameless-read}
 use Rattle.beta_fragment.proofs.QuotableLemmas.{quotable-spine}
 
@@ -37,7 +39,7 @@ below-after r s (term.Str c) = refl
 below-after r s (term.Name c) = refl
 below-after r s (term.Var c) = refl
 
-fill-after : (r : Head → Term) (s : ℕ → Term) (t : Term) → fill r (sub s t) ≡ fill (λ h. fill r (sub_head s h)) t
+pub fill-after : (r : Head → Term) (s : ℕ → Term) (t : Term) → fill r (sub s t) ≡ fill (λ h. fill r (sub_head s h)) t
 fill-after r s (term.Lam b) = ap lam (fill-after (below r) (under s) b ∙ ap (λ (q : Head → Term). fill q b) (fun_ext (below-after r s)))
 fill-after r s (At h) = refl
 fill-after r s (term.App f a) = ap₂ apply (fill-after r s f) (fill-after r s a)

@@ -28,12 +28,12 @@ use Rattle.level_terms.specs.Valid.{valid}
 use Rattle.level_terms.proofs.ValidLemmas.{nodes_valid, valid_deeper}
 use Rattle.beta_fragment.specs.declared.glance.Readiness.{Readiness}
 use Rattle.beta_fragment.specs.declared.glance.Readiness.TheVariants.{Level as some_level, Ready, Unready, Unknown}
-use Rattle.beta_fragment.specs.Moves.{value_of, IsLamOf, IsVarOf}
-use Rattle.beta_fragment.proofs.MakeLemmas.{and_both}
-use Rattle.beta_fragment.proofs.MoveLemmas.{below_true}
+use Rattle.level_terms.specs.Values.{value_of, IsLamOf, IsVarOf}
+use Rattle.level_terms.proofs.ReachLemmas.{lam-misses, var-misses}
+use Rattle.level_terms.proofs.MakeLemmas.{and_both, below_true}
 use Rattle.beta_fragment.specs.HeadForm.{IsAbstraction}
 use Rattle.beta_fragment.specs.Firm.{IsPlain, IsReadyNode, IsOpenNode, IsFirmHead, IsFirm, IsFirmNode, IsPlainNode, IsAbstractionNode, EndsOtherwise, IsOther, IsReadiness}
-use Rattle.beta_fragment.proofs.ReadLemmas.{read-follows, places-ready}
+use Rattle.level_terms.proofs.ReadLemmas.{read-follows, places-ready}
 use Rattle.ref_terms.specs.laws.ReadyLaws.{IsRigidHead}
 use Rattle.ref_terms.specs.lemmas.ReadyFacts.{ready-var, ready-lam}
 
@@ -301,10 +301,12 @@ pub lam-known : (g : Graph) (t : TermId) (d : ℕ) (b : TermId) → IsSound g �
 lam-known g t d b s e = record {
   term = λ env p. nodes_read g t.index (Lam d b) env s p e;
   holds = λ h f l. nodes_valid g t.index (Lam d b) f s e ∙ and_both (nat_lt d (suc f)) _ (below_true d (suc f) (omega (arith, l))) (subst (λ n. valid g.nodes g.depths b.index n ≡ true) (let q : d + 1 ≡ suc d = omega arith in q) h);
+  misses = λ v h. lam-misses g t.index d b v s e h;
 }
 
 pub var-open : (g : Graph) (t : TermId) (v : VarId) → IsSound g → node_at g.nodes t.index ≡ Some (Var v) → value_in g.assigned v.index ≡ None → IsVarOf v.index (slice_index g.depths v.index) (value_of g t)
 var-open g t v s e f = record {
   term = λ env p. nodes_read g t.index (Var v) env s p e ∙ ap (λ o. variable_reads g v.index o env) f;
   holds = λ d l. nodes_valid g t.index (Var v) d s e ∙ below_true (slice_index g.depths v.index) (suc d) (omega (arith, l));
+  misses = λ w q. var-misses g t.index v w s e f q;
 }

@@ -6,6 +6,7 @@ use Rattle.level_terms.specs.declared.node.TermId.{TermId}
 use Rattle.level_terms.specs.Graph.{Graph, node_at}
 use Rattle.level_terms.specs.Laws.{ArePlaces}
 use Rattle.level_terms.specs.Sound.{IsSound}
+use Rattle.level_terms.specs.Reached.{tree, reaches}
 use Rattle.level_terms.specs.Valid.{IsValid}
 use Rattle.level_terms.specs.Reading.{read, enter}
 use Rattle.level_terms.specs.Growth.{Grows}
@@ -16,8 +17,9 @@ use Rattle.ref_terms.specs.terms.Term.{Term, At}
 use Rattle.ref_terms.specs.unification.Spine.{apply_all}
 use Rattle.beta_fragment.specs.Names.{names, renamed, AllBelow}
 use Rattle.beta_fragment.specs.HeadForm.{AllValidAt, all_read}
-use Rattle.beta_fragment.specs.Moves.{Value, value_of, Moves, moved, moved_level}
-use Rattle.beta_fragment.proofs.ReadLemmas.{valid-below, grown-reads}
+use Rattle.level_terms.specs.Values.{Value, value_of, IsVarOf, IsLamOf}
+use Rattle.beta_fragment.specs.Moves.{Moves, moved, moved_level, AreLevelsOf, IsMove}
+use Rattle.level_terms.proofs.ReadLemmas.{valid-below, grown-reads}
 use Rattle.beta_fragment.proofs.EnterLemmas.{names-places}
 use Rattle.std.specs.List.{list_all}
 use Rattle.std.proofs.Common.{eqb-true}
@@ -30,13 +32,12 @@ use Rattle.level_terms.proofs.CoverLemmas.{places-enter}
 use Rattle.level_terms.proofs.ValidLemmas.{nodes_valid, valid_deeper}
 use Rattle.ref_terms.specs.terms.Index.{shift}
 use Rattle.ref_terms.specs.terms.Eta.{lam}
-use Rattle.beta_fragment.specs.Moves.{IsVarOf, AreLevelsOf, IsMove, IsLamOf}
 use Rattle.beta_fragment.specs.Firm.{IsSpine}
 use Rattle.beta_fragment.proofs.EnterLemmas.{body-valid}
-use Rattle.beta_fragment.proofs.MakeLemmas.{apply_all-append}
+use Rattle.level_terms.proofs.MakeLemmas.{apply_all-append, below_true}
 use Rattle.beta_fragment.proofs.StayLemmas.{lam-stays}
 use Rattle.beta_fragment.proofs.VarLemmas.{levels-terms, levels-hold, levels-agree, enter-own, enter-other}
-use Rattle.beta_fragment.proofs.MoveLemmas.{below_true, below_from}
+use Rattle.beta_fragment.proofs.MoveLemmas.{below_from}
 
 pub renamed-places : (ls : List ℕ) → ArePlaces (renamed ls)
 renamed-places ls i = tt
@@ -99,7 +100,7 @@ valid-append g d (x ∷ xs) ys v w = (v.0, valid-append g d xs ys v.1 w)
 moved-name : (ls : List ℕ) (to i : ℕ) → i < length ls → moved_level ls (length ls) to i ≡ slice_index ls i
 moved-name ls to i h = ap (λ b. cond b (slice_index ls i) (i - length ls + to)) (below_true i (length ls) h)
 
-pub flex-reads : (g h : Graph) (depth count : ℕ) (u : Term) (t v : ℕ) (ls : List ℕ) (args first list : List TermId) → IsSound g → Grows g h [] [] → IsVarOf v count (record { term = read g t; holds = valid g.nodes g.depths t }) → count ≤ length ls → AllBelow ls depth →
+pub flex-reads : (g h : Graph) (depth count : ℕ) (u : Term) (t v : ℕ) (ls : List ℕ) (args first list : List TermId) → IsSound g → Grows g h [] [] → IsVarOf v count (record { term = read g t; holds = valid g.nodes g.depths t; reached = λ v. reaches v (tree g t) }) → count ≤ length ls → AllBelow ls depth →
     AreLevelsOf ls (length ls) depth 0 (map (value_of h) first) → length first ≡ count → list ≡ first ++ reverse args → IsSpine g depth u t ls args →
     AllValidAt h list depth × (u ≡ apply_all (At (term.Var v)) (all_read h list))
 flex-reads g h depth count u t v ls args first list sound w m few all levels_of long e spine =

@@ -1,6 +1,4 @@
-pub mod ReadLemmas
 pub mod EnterLemmas
-pub mod MakeLemmas
 pub mod MoveLemmas
 pub mod WorkLemmas
 pub mod VisitLemmas
@@ -18,6 +16,10 @@ pub mod PutLemmas
 pub mod PutWork
 pub mod FilledLemmas
 pub mod StandLemmas
+pub mod UnreachedNodes
+pub mod AppliedNodes
+pub mod GentleLemmas
+pub mod InstantLemmas
 pub mod LevelLemmas
 pub mod CellLemmas
 pub mod LevelListLemmas
@@ -31,6 +33,7 @@ pub mod TakingSteps
 pub mod ApplyingLemmas
 pub mod QuoteLemmas
 pub mod QuoteWork
+pub mod RebuildLemmas
 pub mod OpenHeadLemmas
 pub mod EvaluationLemmas
 pub mod ArgumentLemmas

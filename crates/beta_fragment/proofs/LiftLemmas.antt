@@ -1,15 +1,17 @@
 -- Names that a list renames.
 use Rattle.std.proofs.Common.{◌≡◌, ℕ, zero, suc, ◌<◌, ◌≤◌, ◌-◌, ◌+◌, List, [], ◌∷◌, length, take, slice_index, cond, refl, ap, ◌∙◌, arith, sym}
 use Rattle.level_terms.specs.Graph.{Graph}
+use Rattle.level_terms.specs.Reached.{tree, reaches}
 use Rattle.level_terms.specs.Valid.{valid, IsValid}
 use Rattle.level_terms.proofs.ValidLemmas.{valid_deeper}
 use Rattle.level_terms.specs.Reading.{read}
 use Rattle.level_terms.proofs.LocalLemmas.{readings_local}
 use Rattle.ref_terms.specs.terms.Term.{Term}
 use Rattle.beta_fragment.specs.Names.{names, renamed, AllBelow}
-use Rattle.beta_fragment.specs.Moves.{Value, Moves, moved, IsMove}
+use Rattle.level_terms.specs.Values.{Value}
+use Rattle.beta_fragment.specs.Moves.{Moves, moved, IsMove}
 use Rattle.beta_fragment.proofs.EnterLemmas.{names-places}
-use Rattle.beta_fragment.proofs.MoveLemmas.{below_true}
+use Rattle.level_terms.proofs.MakeLemmas.{below_true}
 
 take-long : (ns : List ℕ) (n : ℕ) → n ≤ length ns → length (take n ns) ≡ n
 take-long ns zero h = refl
@@ -45,7 +47,7 @@ lift-move ns n fixed to all few stay below =
     record { below = front; few = few; low = stay-low (take n ns) fixed to few stay front; stay = stay }
 
 -- a node all of whose levels stay
-pub all-stay : (g : Graph) (ns : List ℕ) (fixed to t : ℕ) → IsMove ns fixed to → fixed ≡ length ns → IsValid g t (length ns) → Moves g ns to t (length ns) (length ns) (record { term = read g t; holds = valid g.nodes g.depths t })
+pub all-stay : (g : Graph) (ns : List ℕ) (fixed to t : ℕ) → IsMove ns fixed to → fixed ≡ length ns → IsValid g t (length ns) → Moves g ns to t (length ns) (length ns) (record { term = read g t; holds = valid g.nodes g.depths t; reached = λ v. reaches v (tree g t) })
 all-stay g ns fixed to t m all v = record {
   term = λ env p. readings_local g t (length ns) env (moved ns (length ns) to env) v (λ i k. same env i k);
   holds = λ e le. let low = m.low in valid_deeper g t (length ns) e v (omega (arith, le, all, low));

@@ -24,9 +24,10 @@ use Rattle.ref_terms.specs.terms.Eta.{lam}
 use Rattle.ref_terms.specs.unification.Spine.{apply_all}
 use Rattle.beta_fragment.specs.Names.{AllBelow}
 use Rattle.beta_fragment.specs.HeadForm.{AllValidAt}
-use Rattle.beta_fragment.specs.Moves.{Value, value_of, Moves, IsLamOf, IsAppOf, IsLevelOf, IsMove, Plan, naming, Does, moved, moved_level}
+use Rattle.level_terms.specs.Values.{Value, value_of, IsLamOf, IsAppOf, IsLevelOf}
+use Rattle.beta_fragment.specs.Moves.{Moves, IsMove, Plan, naming, Does, moved, moved_level}
 use Rattle.beta_fragment.proofs.EnterLemmas.{body-valid}
-use Rattle.beta_fragment.proofs.MakeLemmas.{and_both, newest}
+use Rattle.level_terms.proofs.MakeLemmas.{and_both, below_true}
 
 -- a node is what it was before the heap grew
 node_at-older : (new nodes : List Node) (t : ℕ) → t < length nodes → node_at (new ++ nodes) t ≡ node_at nodes t
@@ -51,9 +52,6 @@ assigned-before g h w v = ap (λ (bs : List Assigned). value_in bs v) (w.assigne
 -- the levels stand for places after they are moved
 pub moved-places : (ns : List ℕ) (base to : ℕ) (env : ℕ → Term) → ArePlaces env → ArePlaces (moved ns base to env)
 moved-places ns base to env p i = p (moved_level ns base to i)
-
-pub below_true : (i b : ℕ) → i < b → nat_lt i b ≡ true
-below_true i b h = grind (arith, h)
 
 pub below_false : (i b : ℕ) → b ≤ i → nat_lt i b ≡ false
 below_false i b h = grind (arith, h)
@@ -183,14 +181,6 @@ value-moves g ns to t base s value v x sound e f valid low few m = record {
         go false true q r = absurd (let l : base ≤ i = above_from i base q in let z : i < min base (slice_index g.depths v.index) = below_from i (min base (slice_index g.depths v.index)) r in omega (arith, l, z))
 
 -- the node of a level
-pub level-made : (g h : Graph) (l : ℕ) (r : TermId) → IsSound h → r.index ≡ length g.nodes → h ≡ record g { nodes = Level l ∷ g.nodes } → IsLevelOf l (value_of h r)
-level-made g h l r s e made =
-    let at : node_at h.nodes r.index ≡ Some (Level l) = ap₂ (λ (ns : List Node) (i : ℕ). node_at ns i) (λ i. (made i).nodes) e ∙ newest (Level l) g.nodes in
-    record {
-      term = λ env p. nodes_read h r.index (Level l) env s p at;
-      holds = λ d k. nodes_valid h r.index (Level l) d s at ∙ below_true l d k;
-    }
-
 -- a node that has no moved level
 pub kept-moves : (g : Graph) (ns : List ℕ) (fixed to t base s k : ℕ) (x : Value) → IsMove ns fixed to → IsValid g t k → k ≤ fixed → k ≤ base → x.term ≡ read g t → x.holds ≡ valid g.nodes g.depths t → Moves g ns to t base s x
 kept-moves g ns fixed to t base s k x move v f b e h = record {

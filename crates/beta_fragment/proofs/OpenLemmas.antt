@@ -15,10 +15,11 @@ use Rattle.ref_terms.specs.terms.Index.{first}
 use Rattle.ref_terms.specs.terms.Apply.{open_with}
 use Rattle.beta_fragment.specs.Names.{names, renamed}
 use Rattle.beta_fragment.specs.Body.{at_name, opened_reads}
-use Rattle.beta_fragment.specs.Moves.{Value, Moves, IsMove}
+use Rattle.level_terms.specs.Values.{Value}
+use Rattle.beta_fragment.specs.Moves.{Moves, IsMove}
 use Rattle.ref_terms.specs.lemmas.ReadyFacts.{ready-name}
 use Rattle.ref_terms.proofs.terms.OpeningLemmas.{opening-is-replacing}
-use Rattle.beta_fragment.proofs.ReadLemmas.{read-built, read-follows}
+use Rattle.level_terms.proofs.ReadLemmas.{read-built, read-follows}
 use Rattle.beta_fragment.proofs.EnterLemmas.{entered, first-places}
 use Rattle.beta_fragment.proofs.HeadLemmas.{renamed-node, renamed-valid}
 

@@ -29,9 +29,10 @@ use Rattle.beta_fragment.specs.declared.equality.Pair.{Pair}
 use Rattle.beta_fragment.specs.Pairs.{IsValidPair, AllValidPairs, IsSame, AllSame, pairs_size, pairs_of, StandsFor, Divides, TurnsOut, IsValueOf}
 use Rattle.beta_fragment.proofs.EnterLemmas.{names-places, body-entered, body-valid}
 use Rattle.beta_fragment.proofs.FirmLemmas.{apply-plain, reads-value}
-use Rattle.beta_fragment.proofs.MoveLemmas.{app-valid, below_true}
+use Rattle.beta_fragment.proofs.MoveLemmas.{app-valid}
+use Rattle.level_terms.proofs.MakeLemmas.{below_true}
 use Rattle.beta_fragment.proofs.NamelessLemmas.{nameless-read}
-use Rattle.beta_fragment.proofs.ReadLemmas.{read-built, valid-below}
+use Rattle.level_terms.proofs.ReadLemmas.{read-built, valid-below}
 use Rattle.beta_fragment.proofs.StayLemmas.{lam-stays, var-low}
 use Rattle.beta_fragment.proofs.WorkLemmas.{size-some, total, lam-size}
 

@@ -26,12 +26,13 @@ use Rattle.ref_terms.specs.laws.TermLaws.{AllBuilt}
 use Rattle.ref_terms.specs.lemmas.ComposeLemmas.{fill-lam}
 use Rattle.ref_terms.specs.lemmas.OccursLemmas.{fill_at}
 use Rattle.ref_terms.specs.lemmas.NameLemmas.{fill-agree_names}
-use Rattle.beta_fragment.specs.Moves.{Value, putting, Puts, IsLamOf, IsAppOf, IsLevelOf, IsVarOf, IsPutLevel, ArePutLevels, IsPutVar, around, put_name, Lacks}
+use Rattle.level_terms.specs.Values.{Value, IsLamOf, IsAppOf, IsLevelOf, IsVarOf}
+use Rattle.beta_fragment.specs.Moves.{putting, Puts, IsPutLevel, ArePutLevels, IsPutVar, around, put_name, Lacks}
 use Rattle.beta_fragment.specs.Firm.{IsPlain, IsPlainNode}
-use Rattle.beta_fragment.proofs.ReadLemmas.{read-built}
+use Rattle.level_terms.proofs.ReadLemmas.{read-built}
 use Rattle.beta_fragment.proofs.EnterLemmas.{body-valid}
-use Rattle.beta_fragment.proofs.MakeLemmas.{and_both}
-use Rattle.beta_fragment.proofs.MoveLemmas.{below_true, below_false, below_from, above_from, AllMove}
+use Rattle.level_terms.proofs.MakeLemmas.{and_both, below_true}
+use Rattle.beta_fragment.proofs.MoveLemmas.{below_false, below_from, above_from, AllMove}
 use Rattle.beta_fragment.proofs.FirmLemmas.{apply-plain}
 use Rattle.beta_fragment.proofs.NamelessLemmas.{lacks-enter, nameless-read}
 

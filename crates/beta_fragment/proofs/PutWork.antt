@@ -15,9 +15,10 @@ use Rattle.ref_terms.specs.terms.Term.{Term}
 use Rattle.beta_fragment.specs.declared.renaming.Task.{Task}
 use Rattle.beta_fragment.specs.declared.renaming.Task.TheVariants.{Visit, Lam, App}
 use Rattle.beta_fragment.specs.Firm.{IsPlain, IsPlainNode}
-use Rattle.beta_fragment.specs.Moves.{Value, putting}
+use Rattle.level_terms.specs.Values.{Value}
+use Rattle.beta_fragment.specs.Moves.{putting}
 use Rattle.beta_fragment.specs.Work.{Leads, work_size, visits}
-use Rattle.beta_fragment.proofs.ReadLemmas.{valid-below, read-built, grown-reads}
+use Rattle.level_terms.proofs.ReadLemmas.{valid-below, read-built, grown-reads}
 use Rattle.beta_fragment.proofs.EnterLemmas.{body-valid}
 use Rattle.beta_fragment.proofs.MoveLemmas.{app-valid, node-before, assigned-before}
 use Rattle.beta_fragment.proofs.VarLemmas.{var-known, depth-before}

@@ -23,8 +23,8 @@ use Rattle.beta_fragment.specs.HeadForm.{AllValidAt, all_read}
 use Rattle.beta_fragment.specs.Moves.{Lacks}
 use Rattle.beta_fragment.specs.Quoted.{AllIndicesBelow, AllHeads, IsOpenHead}
 use Rattle.beta_fragment.specs.Settled.{IsQuotable}
-use Rattle.beta_fragment.proofs.ReadLemmas.{read-built, read-follows}
-use Rattle.beta_fragment.proofs.MoveLemmas.{below_true}
+use Rattle.level_terms.proofs.ReadLemmas.{read-built, read-follows}
+use Rattle.level_terms.proofs.MakeLemmas.{below_true}
 use Rattle.beta_fragment.proofs.NamelessLemmas.{nameless-read}
 
 -- each index from a number on, one further out

@@ -8,6 +8,7 @@ use Rattle.level_terms.specs.Laws.{ArePlaces}
 use Rattle.level_terms.specs.Sound.{IsSound}
 use Rattle.level_terms.specs.Valid.{valid, IsValid, layer_valid}
 use Rattle.level_terms.specs.Layer.{layer_of}
+use Rattle.level_terms.specs.Reached.{Leaf, layer_tree, node_tree}
 use Rattle.level_terms.specs.Reading.{read, enter, node_reads}
 use Rattle.level_terms.specs.Growth.{Grows}
 use Rattle.level_terms.proofs.CoverLemmas.{places-enter}
@@ -19,21 +20,24 @@ use Rattle.ref_terms.specs.terms.Term.{Term, Head, At}
 use Rattle.ref_terms.specs.terms.Index.{shift, next}
 use Rattle.ref_terms.specs.terms.Eta.{lam}
 use Rattle.ref_terms.specs.terms.Apply.{fill}
-use Rattle.ref_terms.specs.terms.Occurs.{is_name}
+use Rattle.ref_terms.specs.terms.Occurs.{is_name, has_name, occurs}
 use Rattle.ref_terms.specs.unification.Spine.{apply_all}
 use Rattle.ref_terms.specs.lemmas.TermLemmas.{ren_sub}
-use Rattle.ref_terms.specs.lemmas.NameLemmas.{nat_eq_self}
+use Rattle.ref_terms.specs.lemmas.NameLemmas.{nat_eq_self, or_left, or_right}
 use Rattle.beta_fragment.specs.Names.{names}
 use Rattle.beta_fragment.specs.declared.answer.RigidHead.{RigidHead}
 use Rattle.beta_fragment.specs.HeadForm.{rigid_head}
-use Rattle.beta_fragment.specs.Moves.{Value, value_of, IsLamOf, IsAppOf, IsLevelOf, IsVarOf, put_name}
+use Rattle.level_terms.specs.Values.{Value, value_of, AllMiss, IsLamOf, IsAppOf, IsLevelOf, IsVarOf}
+use Rattle.beta_fragment.specs.Moves.{put_name}
 use Rattle.beta_fragment.specs.Quoted.{AllNamesBelow, put_head, names_with, IsValidIfAny}
-use Rattle.beta_fragment.specs.Quoting.{within, heads_below, Quotes, IsHeadOf, Setting, heads_of, AllQuote, app_to, items_of}
-use Rattle.beta_fragment.proofs.ReadLemmas.{read-follows, valid-below, grown-reads}
+use Rattle.beta_fragment.specs.Quoting.{within, heads_below, KeepsHeads, Quotes, IsHeadOf, Setting, heads_of, AllQuote, app_to, items_of}
+use Rattle.level_terms.proofs.ReadLemmas.{read-follows, valid-below, grown-reads}
 use Rattle.beta_fragment.proofs.EnterLemmas.{names-places}
 use Rattle.beta_fragment.proofs.VarLemmas.{enter-own, enter-other}
-use Rattle.beta_fragment.proofs.MakeLemmas.{and_both, newest}
+use Rattle.level_terms.proofs.MakeLemmas.{and_both, newest}
 use Rattle.beta_fragment.proofs.MoveLemmas.{above_from, below_from}
+use Rattle.beta_fragment.proofs.QuotableLemmas.{nameless-valid}
+use Rattle.level_terms.proofs.ReachLemmas.{leaf-misses}
 
 -- what the levels stand for
 pub within-places : (depth k : ℕ) → ArePlaces (within depth k)
@@ -89,12 +93,15 @@ pub quotes-head : (g : Graph) (depth : ℕ) (put : Option TermId) (k : ℕ) (h :
 quotes-head g depth put k h x n e m = record {
   reads = m.term (within depth k) (within-places depth k) ∙ sym (heads-closed (put_head g depth put) k h (At h) n (no_index-head h n) (put-keeps g depth put h e));
   holds = m.holds (depth + k);
+  misses = λ keeps v a. m.misses v a;
 }
 
-pub head-made : (h : Graph) (r : TermId) (n : Node) (u : Head) → IsSound h → node_at h.nodes r.index ≡ Some n → ((env : ℕ → Term) → node_reads h n env ≡ At u) → ((e : ℕ) → layer_valid h.depths (layer_of (valid h.nodes h.depths) n) e ≡ true) → IsHeadOf u (value_of h r)
-head-made h r n u s at reads holds = record {
+pub head-made : (h : Graph) (r : TermId) (n : Node) (u : Head) → IsSound h → node_at h.nodes r.index ≡ Some n → ((env : ℕ → Term) → node_reads h n env ≡ At u) → ((e : ℕ) → layer_valid h.depths (layer_of (valid h.nodes h.depths) n) e ≡ true) → layer_tree (layer_of (node_tree h.nodes) n) ≡ Leaf →
+    IsHeadOf u (value_of h r)
+head-made h r n u s at reads holds leaf = record {
   term = λ env p. nodes_read h r.index n env s p at ∙ reads env;
   holds = λ e. nodes_valid h r.index n e s at ∙ holds e;
+  misses = λ v a. leaf-misses h r.index n v s at leaf;
 }
 
 -- the node that was made last
@@ -102,7 +109,7 @@ pub at-made : (g h : Graph) (n : Node) (r : TermId) → r.index ≡ length g.nod
 at-made g h n r e made = ap₂ (λ (ns : List Node) (i : ℕ). node_at ns i) (λ i. (made i).nodes) e ∙ newest n g.nodes
 
 pub var-head : (v : ℕ) (x : Value) → IsVarOf v 0 x → IsHeadOf (term.Var v) x
-var-head v x m = record { term = m.term; holds = λ e. m.holds e (omega arith) }
+var-head v x m = record { term = m.term; holds = λ e. m.holds e (omega arith); misses = m.misses }
 
 -- a level
 pub name-below : (k n : ℕ) → AllNamesBelow k (At (term.Name n)) → n < k
@@ -117,6 +124,7 @@ quotes-level g depth put k n x h m = record {
   reads = m.term (within depth k) (within-places depth k) ∙ within-name depth k n h
       ∙ sym (heads-closed (put_head g depth put) k (term.Name n) (At (term.Name n)) tt (no_index-head (term.Name n) tt) (put-keeps g depth put (term.Name n) (ne_eqb depth n (omega (arith, h)))));
   holds = m.holds (depth + k) (omega (arith, h));
+  misses = λ keeps v a. m.misses v;
 }
 
 -- a reading at names has no free index
@@ -128,6 +136,10 @@ quotes-put g depth k r s v = record {
   reads = readings_local g r.index depth (within depth k) names v (λ i h. within-name depth k i h)
       ∙ sym (heads-closed (put_head g depth (Some r)) k (term.Name depth) (read g r.index names) tt (no_index-read g s r.index) (ap (λ b. cond b (read g r.index names) (At (term.Name depth))) (nat_eq_self depth)));
   holds = valid_deeper g r.index depth (depth + k) v (omega arith);
+  misses = λ keeps w a.
+      let here : read g r.index names ≡ At (term.Name depth) = sym (ap (λ b. cond b (read g r.index names) (At (term.Name depth))) (nat_eq_self depth)) ∙ keeps (term.Name depth) in
+      let none = nameless-valid depth g r.index depth names v (λ i h. ne_eqb depth i (omega (arith, h))) in
+      absurd (let z : true ≡ false = sym (nat_eq_self depth) ∙ sym (ap (has_name depth) here) ∙ none in cc);
 }
 
 -- a bound index
@@ -135,6 +147,7 @@ pub quotes-index : (r : Head → Term) (depth k i l : ℕ) (x : Value) → i < k
 quotes-index r depth k i l x h e m = record {
   reads = m.term (within depth k) (within-places depth k) ∙ within-index depth k i l h (omega (arith, h, e)) ∙ sym (heads-index r k i h);
   holds = m.holds (depth + k) (omega (arith, h, e));
+  misses = λ keeps v a. m.misses v;
 }
 
 -- an abstraction
@@ -144,6 +157,7 @@ quotes-lam r depth k l b y x e m w =
     record {
       reads = made.term (within depth k) (within-places depth k) ∙ ap lam m.reads;
       holds = made.holds (subst (λ d. y.holds d ≡ true) (let q : depth + suc k ≡ depth + k + 1 = omega arith in q) m.holds) (depth + k) (omega arith);
+      misses = λ keeps v a. made.misses v (m.misses keeps v a);
     }
 
 -- an application
@@ -163,10 +177,26 @@ args-hold s k (x ∷ xs) [] w = absurd w
 args-hold s k [] (y ∷ ys) w = absurd w
 args-hold s k (x ∷ xs) (y ∷ ys) w = and_both (y.holds (s.depth + k)) _ w.0.holds (args-hold s k xs ys w.1)
 
+-- what an application lacks its parts lack
+abbrev pub AllLack : (v : ℕ) → List Term → Type 0
+AllLack v [] = Unit {0}
+AllLack v (x ∷ xs) = (occurs v x ≡ false) × AllLack v xs
+
+app-lacks : (v : ℕ) (xs : List Term) (f : Term) → occurs v (app_to f xs) ≡ false → (occurs v f ≡ false) × AllLack v xs
+app-lacks v [] f e = (e, tt)
+app-lacks v (x ∷ xs) f e = let r = app-lacks v xs (term.App f x) e in (or_left _ _ r.0, (or_right _ _ r.0, r.1))
+
+args-miss : (s : Setting) (v k : ℕ) (xs : List Term) (ys : List Value) → KeepsHeads (heads_of s) → AllLack v xs → AllQuote s (items_of k xs) ys → AllMiss v ys
+args-miss s v k [] [] h a w = tt
+args-miss s v k (x ∷ xs) [] h a w = absurd w
+args-miss s v k [] (y ∷ ys) h a w = absurd w
+args-miss s v k (x ∷ xs) (y ∷ ys) h a w = (w.0.misses h v a.0, args-miss s v k xs ys h a.1 w.1)
+
 pub quotes-app : (s : Setting) (k : ℕ) (f : Term) (xs : List Term) (h x : Value) (ys : List Value) → Quotes (heads_of s) s.depth k f h → AllQuote s (items_of k xs) ys → IsAppOf h ys x → Quotes (heads_of s) s.depth k (app_to f xs) x
 quotes-app s k f xs h x ys m ms w = record {
   reads = w.term (within s.depth k) (within-places s.depth k) ∙ ap₂ apply_all m.reads (args-read s k xs ys ms) ∙ sym (fill-app (heads_below k (heads_of s)) xs f);
   holds = w.holds (s.depth + k) m.holds (args-hold s k xs ys ms);
+  misses = λ keeps v a. let parts = app-lacks v xs f a in w.misses v (m.misses keeps v parts.0) (args-miss s v k xs ys keeps parts.1 ms);
 }
 
 -- as the heap grows
@@ -196,3 +226,7 @@ quotes-put_at g depth k n put r s e same v =
 -- a head that no assignment changes, and that is no level
 pub quotes-rigid : (g : Graph) (depth : ℕ) (put : Option TermId) (k : ℕ) (h n : RigidHead) (x : Value) → h ≡ n → IsClosedHead (rigid_head n) → is_name depth (rigid_head n) ≡ false → IsHeadOf (rigid_head n) x → Quotes (put_head g depth put) depth k (At (rigid_head h)) x
 quotes-rigid g depth put k h n x e w other m = subst (λ (i : RigidHead). Quotes (put_head g depth put) depth k (At (rigid_head i)) x) (sym e) (quotes-head g depth put k (rigid_head n) x w other m)
+
+-- with nothing put, each head stands for itself
+pub none-keeps : (g : Graph) (depth : ℕ) (put : Option TermId) → put ≡ None → KeepsHeads (put_head g depth put)
+none-keeps g depth put e h = ap (λ (o : Option TermId). put_head g depth o h) e

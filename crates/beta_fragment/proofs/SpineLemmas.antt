@@ -22,7 +22,7 @@ use Rattle.beta_fragment.specs.declared.equality.Pair.{Pair}
 use Rattle.beta_fragment.specs.Pairs.{IsValidPair, AllValidPairs, IsSame, AllSame, pairs_size, pairs_of, Divides}
 use Rattle.beta_fragment.proofs.EnterLemmas.{names-places}
 use Rattle.beta_fragment.proofs.FirmLemmas.{apply-plain, apply_all-head}
-use Rattle.beta_fragment.proofs.MakeLemmas.{parts-there}
+use Rattle.level_terms.proofs.MakeLemmas.{parts-there}
 use Rattle.beta_fragment.proofs.MoveLemmas.{app-valid}
 use Rattle.beta_fragment.proofs.PairLemmas.{valid-append, same-append, same-front, same-back, size-append, same-lists, lists-same, lists-valid, lists-size, spine-parts}
 use Rattle.beta_fragment.proofs.WorkLemmas.{size-some, total, app-size}

@@ -12,8 +12,8 @@ use Rattle.level_terms.specs.Valid.{IsValid}
 use Rattle.level_terms.proofs.LocalLemmas.{and_right}
 use Rattle.level_terms.proofs.ValidLemmas.{nodes_valid}
 use Rattle.std.specs.Prelude.{ℤ}
-use Rattle.beta_fragment.proofs.MakeLemmas.{and_both}
-use Rattle.beta_fragment.proofs.MoveLemmas.{below_true, below_from, app-valid}
+use Rattle.level_terms.proofs.MakeLemmas.{and_both, below_true}
+use Rattle.beta_fragment.proofs.MoveLemmas.{below_from, app-valid}
 
 pub lam-stays : (g : Graph) (t d : ℕ) (b : TermId) (s : ℕ) → IsSound g → node_at g.nodes t ≡ Some (Lam d b) → IsValid g t s → IsValid g t d
 lam-stays g t d b s sound e v = nodes_valid g t (Lam d b) d sound e ∙ and_both (nat_lt d (suc d)) _ (below_true d (suc d) (omega arith)) (and_right (nat_lt d (suc s)) _ (sym (nodes_valid g t (Lam d b) s sound e) ∙ v))

@@ -28,9 +28,9 @@ use Rattle.beta_fragment.specs.Spine.{args_in}
 use Rattle.beta_fragment.specs.declared.glance.Readiness.TheVariants.{Level, Ready}
 use Rattle.std.specs.Option.{option_to_list}
 use Rattle.beta_fragment.proofs.SplitLemmas.{empty-list}
-use Rattle.beta_fragment.proofs.ReadLemmas.{valid-below, grown-reads}
+use Rattle.level_terms.proofs.ReadLemmas.{valid-below, grown-reads}
 use Rattle.beta_fragment.proofs.EnterLemmas.{body-applied, body-valid}
-use Rattle.beta_fragment.proofs.MakeLemmas.{apply_all-append, parts-there}
+use Rattle.level_terms.proofs.MakeLemmas.{apply_all-append, parts-there}
 use Rattle.beta_fragment.proofs.MoveLemmas.{node-before, assigned-before, app-valid}
 use Rattle.beta_fragment.proofs.StayLemmas.{var-low}
 use Rattle.beta_fragment.proofs.WorkLemmas.{app-size, lam-size}

@@ -31,25 +31,11 @@ use Rattle.ref_terms.specs.unification.Spine.{apply_all}
 use Rattle.ref_terms.specs.lemmas.FillLemmas.{built-apply}
 use Rattle.ref_terms.specs.lemmas.ComposeLemmas.{ren-apply, lam-apply}
 use Rattle.beta_fragment.specs.Names.{AllBelow}
-use Rattle.beta_fragment.specs.Moves.{Value, value_of, Moves, IsLamOf, IsAppOf, IsLevelOf, IsVarOf, AreLevelsOf, IsMovedVar, naming, moved, moved_level}
-use Rattle.beta_fragment.proofs.MakeLemmas.{newest, and_both}
-use Rattle.beta_fragment.proofs.MoveLemmas.{below_true, below_from, moved-places, moved-below, node-before, assigned-before, value-moves}
-use Rattle.beta_fragment.proofs.ReadLemmas.{valid-below}
-
--- the node of a variable
-pub var-made : (g h : Graph) (v : VarId) (r : TermId) → IsSound h → r.index ≡ length g.nodes → h ≡ record g { nodes = Var v ∷ g.nodes } → value_in g.assigned v.index ≡ None → IsVarOf v.index (slice_index g.depths v.index) (value_of h r)
-var-made g h v r s e made free =
-    let at : node_at h.nodes r.index ≡ Some (Var v) = ap₂ (λ (ns : List Node) (i : ℕ). node_at ns i) (λ i. (made i).nodes) e ∙ newest (Var v) g.nodes in
-    let none : value_in h.assigned v.index ≡ None = ap (λ (bs : List Assigned). value_in bs v.index) (λ i. (made i).assigned) ∙ free in
-    let depths : h.depths ≡ g.depths = λ i. (made i).depths in
-    record {
-      term = λ env p. nodes_read h r.index (Var v) env s p at
-          ∙ ap (λ o. variable_reads h v.index o env) none
-          ∙ ap (λ (ds : List ℕ). apply_all (At (term.Var v.index)) (levels (slice_index ds v.index) env)) depths;
-      holds = λ d k. nodes_valid h r.index (Var v) d s at
-          ∙ ap (λ (ds : List ℕ). nat_lt (slice_index ds v.index) (suc d)) depths
-          ∙ below_true (slice_index g.depths v.index) (suc d) (omega (arith, k));
-    }
+use Rattle.level_terms.specs.Values.{Value, value_of, IsLamOf, IsAppOf, IsLevelOf, IsVarOf}
+use Rattle.beta_fragment.specs.Moves.{Moves, AreLevelsOf, IsMovedVar, naming, moved, moved_level}
+use Rattle.level_terms.proofs.MakeLemmas.{newest, and_both, below_true}
+use Rattle.beta_fragment.proofs.MoveLemmas.{below_from, moved-places, moved-below, node-before, assigned-before, value-moves}
+use Rattle.level_terms.proofs.ReadLemmas.{valid-below}
 
 -- the last of so many levels
 levels-last : (d : ℕ) (e : ℕ → Term) → levels (suc d) e ≡ levels d e ++ e d ∷ []
@@ -99,6 +85,7 @@ pub lam-var : (v d : ℕ) (y x : Value) → IsLamOf d y x → IsVarOf v (suc d) 
 lam-var v d y x w m = record {
   term = λ env p. w.term env p ∙ ap lam (m.term (enter d env) (places-enter d env p)) ∙ abstracted v d env p;
   holds = λ e k. w.holds (m.holds (d + 1) (omega arith)) e k;
+  misses = λ u q. w.misses u (m.misses u q);
 }
 
 -- levels, moved

@@ -12,12 +12,13 @@ use Rattle.level_terms.proofs.FoldLemmas.{over-at, names_older}
 use Rattle.beta_fragment.specs.declared.renaming.Task.{Task}
 use Rattle.beta_fragment.specs.declared.renaming.Task.TheVariants.{Visit, Lam, App}
 use Rattle.beta_fragment.specs.HeadForm.{AllValidAt}
-use Rattle.beta_fragment.specs.Moves.{Value, value_of, Plan, naming, Does, IsLow, HasFew, IsLamOf, IsAppOf}
+use Rattle.level_terms.specs.Values.{Value, value_of, IsLamOf, IsAppOf}
+use Rattle.beta_fragment.specs.Moves.{Plan, naming, Does, IsLow, HasFew}
 use Rattle.beta_fragment.specs.Work.{Leads, work_size, Steps, visits, IsReady}
 use Rattle.beta_fragment.specs.Names.{AllBelow}
-use Rattle.beta_fragment.proofs.ReadLemmas.{valid-below}
+use Rattle.level_terms.proofs.ReadLemmas.{valid-below}
 use Rattle.beta_fragment.proofs.EnterLemmas.{body-valid}
-use Rattle.beta_fragment.proofs.MakeLemmas.{values-kept, grown-length}
+use Rattle.level_terms.proofs.MakeLemmas.{values-kept, grown-length}
 use Rattle.beta_fragment.proofs.MoveLemmas.{AllMove, lam-moves, app-moves, app-valid}
 
 -- lists that are joined at an item are the same where their ends are equally long

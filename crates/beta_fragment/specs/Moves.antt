@@ -11,6 +11,7 @@ use Rattle.ref_terms.specs.terms.Apply.{fill}
 use Rattle.ref_terms.specs.terms.Occurs.{is_name, has_name}
 use Rattle.ref_terms.specs.terms.Eta.{lam}
 use Rattle.ref_terms.specs.unification.Spine.{apply_all}
+use Rattle.level_terms.specs.Values.{Value, IsLevelOf}
 use Rattle.beta_fragment.specs.Names.{AllBelow}
 
 -- where a level goes: a name to the one that the list has for it, a bound level as far above `to` as it was above the base
@@ -28,39 +29,10 @@ pub record IsMove (ns : List ℕ) (fixed to : ℕ) : Type 0 where
   pub low : fixed ≤ to
   pub stay : (i : ℕ) → i < fixed → slice_index ns i ≡ i
 
--- what is known of a node: what it reads as, and the depths at which it is valid
-pub record Value : Type 0 where
-  pub term : (ℕ → Term) → Term
-  pub holds : ℕ → Bool
-
--- so of a node of a heap
-abbrev pub value_of : Graph → TermId → Value
-value_of g t = record { term = read g t.index; holds = valid g.nodes g.depths t.index }
-
 -- a node that was valid at a source depth, with its levels moved
 pub record Moves (g : Graph) (ns : List ℕ) (to t base source : ℕ) (x : Value) : Type 0 where
   pub term : (env : ℕ → Term) → ArePlaces env → x.term env ≡ read g t (moved ns base to env)
   pub holds : (e : ℕ) → source - base + to ≤ e → x.holds e ≡ true
-
--- the abstraction of a body at a depth
-pub record IsLamOf (d : ℕ) (body x : Value) : Type 0 where
-  pub term : (env : ℕ → Term) → ArePlaces env → x.term env ≡ lam (body.term (enter d env))
-  pub holds : body.holds (d + 1) ≡ true → (e : ℕ) → d ≤ e → x.holds e ≡ true
-
--- the application of a head to arguments
-pub record IsAppOf (head : Value) (args : List Value) (x : Value) : Type 0 where
-  pub term : (env : ℕ → Term) → ArePlaces env → x.term env ≡ apply_all (head.term env) (map (λ y. y.term env) args)
-  pub holds : (e : ℕ) → head.holds e ≡ true → list_all (λ y. y.holds e) args ≡ true → x.holds e ≡ true
-
--- a level
-pub record IsLevelOf (l : ℕ) (x : Value) : Type 0 where
-  pub term : (env : ℕ → Term) → ArePlaces env → x.term env ≡ env l
-  pub holds : (e : ℕ) → l < e → x.holds e ≡ true
-
--- a variable that has no value, applied to the levels below a depth
-pub record IsVarOf (v depth : ℕ) (x : Value) : Type 0 where
-  pub term : (env : ℕ → Term) → ArePlaces env → x.term env ≡ apply_all (At (Var v)) (levels depth env)
-  pub holds : (e : ℕ) → depth ≤ e → x.holds e ≡ true
 
 -- levels from k on, moved
 abbrev pub AreLevelsOf : List ℕ → (base to k : ℕ) → List Value → Type 0

@@ -1,5 +1,5 @@
 -- Terms on their way to nodes.
-use Rattle.std.specs.Prelude.{◌≡◌, ℕ, zero, suc, ◌+◌, ◌*◌, ◌<◌, true, List, [], ◌∷◌, ◌++◌, length, map, reverse, Option}
+use Rattle.std.specs.Prelude.{◌≡◌, ℕ, zero, suc, ◌+◌, ◌*◌, ◌<◌, true, false, List, [], ◌∷◌, ◌++◌, length, map, reverse, Option}
 use Rattle.level_terms.specs.declared.node.TermId.{TermId}
 use Rattle.level_terms.specs.Graph.{Graph}
 use Rattle.level_terms.specs.Laws.{ArePlaces}
@@ -7,10 +7,11 @@ use Rattle.level_terms.specs.Reading.{enter}
 use Rattle.ref_terms.specs.terms.Term as term
 use Rattle.ref_terms.specs.terms.Term.{Term, Head, At}
 use Rattle.ref_terms.specs.terms.Apply.{below, fill}
+use Rattle.ref_terms.specs.terms.Occurs.{is_variable, occurs}
 use Rattle.beta_fragment.specs.declared.quoting.Task.{Task}
 use Rattle.beta_fragment.specs.declared.quoting.Task.TheVariants.{Visit, Lam, App}
 use Rattle.beta_fragment.specs.Names.{names}
-use Rattle.beta_fragment.specs.Moves.{Value, value_of}
+use Rattle.level_terms.specs.Values.{Value, value_of}
 use Rattle.beta_fragment.specs.Cells.{term_at}
 use Rattle.beta_fragment.specs.Quoted.{AllIndicesBelow, AllNamesBelow, AllHeads, IsOpenHead, put_head, names_with}
 
@@ -24,15 +25,22 @@ abbrev pub heads_below : (under : ℕ) → (Head → Term) → Head → Term
 heads_below zero r = r
 heads_below (suc k) r = below (heads_below k r)
 
--- what is known of a node is a term under so many abstractions, with terms in place of heads
+-- each head stands for itself
+abbrev pub KeepsHeads : (Head → Term) → Type 0
+KeepsHeads r = (h : Head) → r h ≡ At h
+
+-- what is known of a node is a term under so many abstractions, with terms in place of heads; where each head stands for
+-- itself, no variable is reached that the term lacks
 pub record Quotes (r : Head → Term) (depth under : ℕ) (t : Term) (x : Value) : Type 0 where
   pub reads : x.term (within depth under) ≡ fill (heads_below under r) t
   pub holds : x.holds (depth + under) ≡ true
+  pub misses : KeepsHeads r → (v : ℕ) → occurs v t ≡ false → x.reached v ≡ false
 
 -- a head that is no level and no index, wherever the levels stand for places
 pub record IsHeadOf (h : Head) (x : Value) : Type 0 where
   pub term : (env : ℕ → Term) → ArePlaces env → x.term env ≡ At h
   pub holds : (e : ℕ) → x.holds e ≡ true
+  pub misses : (v : ℕ) → is_variable v h ≡ false → x.reached v ≡ false
 
 -- a term under so many abstractions
 pub record Item : Type 0 where

@@ -8,7 +8,8 @@ use Rattle.level_terms.specs.Sound.{IsSound}
 use Rattle.level_terms.specs.Valid.{IsValid}
 use Rattle.beta_fragment.specs.declared.renaming.Task.{Task}
 use Rattle.beta_fragment.specs.declared.renaming.Task.TheVariants.{Visit, Lam, App}
-use Rattle.beta_fragment.specs.Moves.{Value, value_of, Plan, Does, IsLow, HasFew, IsLamOf, IsAppOf}
+use Rattle.level_terms.specs.Values.{Value, value_of, IsLamOf, IsAppOf}
+use Rattle.beta_fragment.specs.Moves.{Plan, Does, IsLow, HasFew}
 
 -- whatever values meet what the tasks ask for, newest task first, what is left at last is the node t, moved by the plan
 abbrev pub Leads : Graph → Plan → (t base source : ℕ) → List Task → List Value → Type 0

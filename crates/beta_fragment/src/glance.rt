@@ -5,7 +5,7 @@ ghost use Rattle.level_terms.specs.Graph.{node_at, value_in};
 ghost use Rattle.level_terms.specs.Valid.{IsValid};
 ghost use Rattle.level_terms.specs.Reading.{read};
 ghost use Rattle.beta_fragment.specs.Names.{names};
-ghost use Rattle.beta_fragment.specs.Moves.{IsVarOf, value_of};
+ghost use Rattle.level_terms.specs.Values.{IsVarOf, value_of};
 ghost use Rattle.beta_fragment.specs.Firm.{IsFirmNode, IsPlainNode, IsReadyNode, IsOpenNode, IsAbstractionNode, EndsOtherwise, IsOther, IsReadiness, HasLevel, SomeHas, AllThere};
 
 use level_terms::{Heap, Node, TermId, VarId};

@@ -15,8 +15,9 @@ ghost use Rattle.ref_terms.specs.terms.Term.{Term};
 ghost use Rattle.ref_terms.specs.terms.Ready.{ready};
 ghost use Rattle.ref_terms.specs.unification.Spine.{apply_all};
 ghost use Rattle.beta_fragment.specs.Names.{names, renamed, AllBelow};
-ghost use Rattle.beta_fragment.specs.Moves.{IsMove, IsVarOf, value_of};
-ghost use Rattle.beta_fragment.specs.HeadForm.{IsHeadForm, AllValidAt, all_read, rigid_head, ReadsAsLam};
+ghost use Rattle.beta_fragment.specs.Moves.{IsMove};
+ghost use Rattle.level_terms.specs.Values.{IsVarOf, value_of};
+ghost use Rattle.beta_fragment.specs.HeadForm.{IsHeadForm, HasLowHead, AllValidAt, all_read, rigid_head, ReadsAsLam};
 ghost use Rattle.beta_fragment.specs.Firm.{IsSpine, IsAbstractionNode};
 ghost use Rattle.beta_fragment.specs.Spine.{args_in};
 ghost use Rattle.beta_fragment.specs.Body.{IsLam};
@@ -25,11 +26,11 @@ ghost use Rattle.beta_fragment.specs.Turn.{IsTurn, NoneReady, IsFirst, FirstRead
 use crate::answer::{RigidHead, Whnf};
 use crate::glance::{Readiness, bare_var_of, is_abstraction, looked_at};
 use crate::levels::Levels;
-use crate::renaming::{made_lam, moved_levels, moved_node, sum_of};
+use crate::renaming::{moved_levels, moved_node, sum_of};
 use crate::rigid_form::rigid_application;
 use crate::settling::settled;
 use crate::standing::placed;
-use level_terms::{Heap, Node, TermId, TermIds, VarId};
+use level_terms::{Heap, Node, TermId, TermIds, VarId, made_lam};
 use std::alloc::{AllocError, Global};
 
 /// How many arguments inside each other are looked into, to see whether an abstraction takes them.
@@ -40,6 +41,7 @@ const NESTING: usize = 1000;
 pub fn whnf(alloc: Global, heap: &mut Heap, t: TermId, depth: usize) -> Result<Whnf, AllocError>
     requires { IsValid heap.old t.index depth }
     ensures form { IfOk result (λ w. IsHeadForm heap.new depth (read heap.old t.index names) w) }
+    ensures low { IfOk result (λ w. HasLowHead depth w) }
     ensures variables { heap.new.depths ≡ heap.old.depths }
     ensures grows { Grows heap.old heap.new [] [] }
 {

@@ -14,10 +14,12 @@ mod equality;
 mod evaluating;
 mod glance;
 mod head;
+mod instantiating;
 mod levels;
 mod opening;
 mod putting;
 mod quoting;
+mod rebuilding;
 mod renaming;
 mod rigid_form;
 mod settling;
@@ -25,10 +27,12 @@ mod standing;
 mod taking;
 
 pub use answer::{Names, RigidHead, UnifyStop, Whnf};
-pub use body::enter;
+pub use body::{applied_to_level, enter};
 pub use equality::same_term;
 pub use head::whnf;
+pub use instantiating::instantiate;
 pub use opening::contract;
+pub use rebuilding::rebuild;
 pub use renaming::lift;
 
 #[cfg(test)]

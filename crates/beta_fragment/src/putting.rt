@@ -9,7 +9,8 @@ ghost use Rattle.level_terms.specs.Sound.{AllOlder};
 ghost use Rattle.level_terms.specs.Valid.{IsValid};
 ghost use Rattle.level_terms.specs.Reading.{read};
 ghost use Rattle.level_terms.specs.Growth.{Grows};
-ghost use Rattle.beta_fragment.specs.Moves.{putting, value_of, IsPutLevel, ArePutLevels, IsPutVar, Puts, IsVarOf};
+ghost use Rattle.beta_fragment.specs.Moves.{putting, IsPutLevel, ArePutLevels, IsPutVar, Puts};
+ghost use Rattle.level_terms.specs.Values.{value_of, IsVarOf};
 ghost use Rattle.beta_fragment.specs.Firm.{IsPlainNode};
 ghost use Rattle.beta_fragment.specs.Settled.{HasPlainHead, IsDirect, IsTaskThere};
 ghost use Rattle.beta_fragment.specs.Work.{State, Steps, IsReady};
@@ -19,10 +20,8 @@ ghost use Rattle.level_terms.specs.declared.node.Node.TheVariants.{Lam as lam_no
 ghost use Rattle.beta_fragment.specs.declared.renaming.Task.TheVariants.{Visit as visit_task};
 
 use crate::glance::is_plain;
-use crate::renaming::{
-    Task, bare_var, first_task, made_app, made_level, make_app, make_lam, push_visits,
-};
-use level_terms::{Heap, Node, TermId, VarId};
+use crate::renaming::{Task, bare_var, first_task, make_app, make_lam, push_visits};
+use level_terms::{Heap, Node, TermId, VarId, made_app, made_level};
 use std::alloc::{AllocError, Global};
 
 /// The node of a level, or what is put in its place.

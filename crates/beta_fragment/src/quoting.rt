@@ -3,19 +3,21 @@
 //! The walk keeps a list of what is still to be done, and one of the nodes that are done, so that
 //! depth is bounded by memory alone.
 
-ghost use Rattle.std.specs.Prelude.{◌≡◌, ◌+◌, ◌<◌, ◌++◌, ℕ, List, [], ◌∷◌, length, suc, IfOk, OnOk, None};
+ghost use Rattle.std.specs.Prelude.{◌≡◌, ◌+◌, ◌<◌, ◌++◌, ℕ, List, [], ◌∷◌, length, suc, false, IfOk, OnOk, None};
 ghost use Rattle.level_terms.specs.Graph.{Graph, node_at};
 ghost use Rattle.level_terms.specs.Growth.{Grows};
+ghost use Rattle.level_terms.specs.Reached.{IsUnreached};
 ghost use Rattle.level_terms.specs.Sound.{AllOlder};
 ghost use Rattle.level_terms.specs.Reading.{read};
 ghost use Rattle.level_terms.specs.Valid.{IsValid};
 ghost use Rattle.ref_terms.specs.terms.Term as term;
 ghost use Rattle.ref_terms.specs.terms.Term.{Term, Head};
 ghost use Rattle.ref_terms.specs.terms.Apply.{fill};
+ghost use Rattle.ref_terms.specs.terms.Occurs.{occurs};
 ghost use Rattle.beta_fragment.specs.Names.{names};
 ghost use Rattle.beta_fragment.specs.Body.{IsLam};
 ghost use Rattle.beta_fragment.specs.HeadForm.{IsAbstraction, rigid_head};
-ghost use Rattle.beta_fragment.specs.Moves.{value_of};
+ghost use Rattle.level_terms.specs.Values.{value_of};
 ghost use Rattle.beta_fragment.specs.Cells.{terms_of, term_at};
 ghost use Rattle.beta_fragment.specs.Quoted.{AllIndicesBelow, AllNamesBelow, AllHeads, IsOpenHead, put_head, names_with, IsValidIfAny};
 ghost use Rattle.beta_fragment.specs.Quoting.{Quotes, IsHeadOf, Item, Setting, set_for, CanVisit, IsQuoting, tasks_size, IsReady};
@@ -26,8 +28,8 @@ ghost use Rattle.beta_fragment.specs.declared.quoting.Task.TheVariants.{Visit as
 
 use crate::answer::RigidHead;
 use crate::cells::{Cell, Cells};
-use crate::renaming::{applied, bare_var, made_lam, made_level, sum_of};
-use level_terms::{Heap, TermId};
+use crate::renaming::{bare_var, sum_of};
+use level_terms::{Heap, TermId, applied, made_lam, made_level};
 use ref_terms::Sym;
 use std::alloc::{AllocError, Global};
 
@@ -328,7 +330,8 @@ fn quoted_under(
 }
 
 /// A node that reads as the term, or as the term with a node in the place of the name of the depth.
-/// Without that, an abstraction is an abstraction's node.
+/// Without that, an abstraction is an abstraction's node, and no variable is reached that the term
+/// lacks.
 pub(crate) fn quoted(
     alloc: Global,
     heap: &mut Heap,
@@ -345,6 +348,7 @@ pub(crate) fn quoted(
     ensures reads { IfOk result (λ r. read heap.new r.index names ≡ fill (put_head heap.old depth put) (term_at (terms_of cells.now) t)) }
     ensures valid { IfOk result (λ r. IsValid heap.new r.index depth) }
     ensures lam { IfOk result (λ r. IsAbstraction (term_at (terms_of cells.now) t) → IsLam (node_at heap.new.nodes r.index)) }
+    ensures unreached { IfOk result (λ r. put ≡ None → (v : ℕ) → occurs v (term_at (terms_of cells.now) t) ≡ false → IsUnreached heap.new v r.index) }
     ensures variables { heap.new.depths ≡ heap.old.depths }
     ensures grows { Grows heap.old heap.new [] [] }
 {

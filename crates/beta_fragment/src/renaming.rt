@@ -14,7 +14,8 @@ ghost use Rattle.ref_terms.specs.terms.Term as term;
 ghost use Rattle.ref_terms.specs.terms.Term.{Term};
 ghost use Rattle.ref_terms.specs.unification.Spine.{apply_all};
 ghost use Rattle.beta_fragment.specs.Names.{names as own_names, renamed as renamed_by, AllBelow};
-ghost use Rattle.beta_fragment.specs.Moves.{moved, moved_level, IsMove, value_of, IsAppOf, IsLamOf, IsLevelOf, IsVarOf, AreLevelsOf, IsMovedVar, Moves, Plan, naming};
+ghost use Rattle.beta_fragment.specs.Moves.{moved, moved_level, IsMove, AreLevelsOf, IsMovedVar, Moves, Plan, naming};
+ghost use Rattle.level_terms.specs.Values.{value_of, IsAppOf, IsLamOf, IsLevelOf, IsVarOf};
 ghost use Rattle.beta_fragment.specs.Work.{State, Steps, visits, IsReady};
 ghost use Rattle.level_terms.specs.declared.node.TermId.{TermId as Id};
 ghost use Rattle.beta_fragment.specs.declared.renaming.Task.{Task as TaskOf};
@@ -23,7 +24,7 @@ ghost use Rattle.beta_fragment.specs.declared.renaming.Task.TheVariants.{Visit a
 
 use crate::answer::Names;
 use crate::levels::Levels;
-use level_terms::{Heap, Node, TermId, VarId};
+use level_terms::{Heap, Node, TermId, VarId, applied, made_app, made_lam, made_level, made_var};
 use std::alloc::{AllocError, Global};
 
 /// What is still to be done.
@@ -74,77 +75,6 @@ fn fixed_names(names: &[usize]) -> usize
     names.len()
 }
 
-/// Both lists, one after the other.
-fn joined(alloc: Global, first: &[TermId], more: &[TermId]) -> Result<Vec<TermId>, AllocError>
-    ensures { IfOk result (λ all. all.items ≡ first.now ++ more.now) }
-{
-    let mut all = Vec::new(alloc);
-    all.extend_from_slice(first)?;
-    all.extend_from_slice(more)?;
-    Ok(all)
-}
-
-/// A node that is no application, applied to nodes.
-pub(crate) fn made_app(heap: &mut Heap, head: TermId, args: &[TermId]) -> Result<TermId, AllocError>
-    requires head { head.index < length heap.old.nodes }
-    requires no_application { IsHead (node_at heap.old.nodes head.index) }
-    requires args { AllOlder (length heap.old.nodes) args.now }
-    requires some { 0 < length args.now }
-    ensures app { IfOk result (λ r. IsAppOf (value_of heap.old head) (map (value_of heap.old) args.now) (value_of heap.new r)) }
-    ensures there { IfOk result (λ r. r.index < length heap.new.nodes) }
-    ensures variables { heap.new.depths ≡ heap.old.depths }
-    ensures grows { Grows heap.old heap.new [] [] }
-{
-    heap.is_sound();
-    let r = heap.app(head, args)?;
-    heap.is_sound();
-    Ok(r)
-}
-
-/// A node applied to nodes. An application is not the head of another.
-pub(crate) fn applied(
-    alloc: Global,
-    heap: &mut Heap,
-    head: TermId,
-    args: &[TermId],
-) -> Result<TermId, AllocError>
-    requires head { head.index < length heap.old.nodes }
-    requires args { AllOlder (length heap.old.nodes) args.now }
-    requires some { 0 < length args.now }
-    ensures app { IfOk result (λ r. IsAppOf (value_of heap.old head) (map (value_of heap.old) args.now) (value_of heap.new r)) }
-    ensures there { IfOk result (λ r. r.index < length heap.new.nodes) }
-    ensures variables { heap.new.depths ≡ heap.old.depths }
-    ensures grows { Grows heap.old heap.new [] [] }
-{
-    heap.is_sound();
-    if let Node::App {
-        head: inner,
-        args: first,
-    } = heap.view(head)
-    {
-        let inner = *inner;
-        let all = joined(alloc, first.as_slice(), args)?;
-        return made_app(heap, inner, all.as_slice());
-    }
-    made_app(heap, head, args)
-}
-
-/// The abstraction of a body at a depth.
-pub(crate) fn made_lam(heap: &mut Heap, depth: usize, body: TermId) -> Result<TermId, AllocError>
-    requires { body.index < length heap.old.nodes }
-    ensures lam { IfOk result (λ r. IsLamOf depth (value_of heap.old body) (value_of heap.new r)) }
-    ensures head { IfOk result (λ r. IsHead (node_at heap.new.nodes r.index)) }
-    ensures node { IfOk result (λ r. node_at heap.new.nodes r.index ≡ Some (lam_node depth body)) }
-    ensures there { IfOk result (λ r. r.index < length heap.new.nodes) }
-    ensures variables { heap.new.depths ≡ heap.old.depths }
-    ensures grows { Grows heap.old heap.new [] [] }
-{
-    heap.is_sound();
-    let r = heap.lam(depth, body)?;
-    heap.is_sound();
-    Ok(r)
-}
-
 /// Where a level goes. Levels are numbered by 64 bits; `AllocError` where they are used up.
 fn level_after(names: &Levels, base: usize, to: usize, level: usize) -> Result<usize, AllocError>
     requires { base ≤ length names.now }
@@ -161,18 +91,6 @@ pub(crate) fn sum_of(a: usize, b: usize) -> Result<usize, AllocError>
     ensures { IfOk result (λ n. n ≡ a + b) }
 {
     a.checked_add(b).ok_or(AllocError)
-}
-
-/// The node of a level.
-pub(crate) fn made_level(heap: &mut Heap, level: usize) -> Result<TermId, AllocError>
-    ensures level { IfOk result (λ r. IsLevelOf level (value_of heap.new r)) }
-    ensures there { IfOk result (λ r. r.index < length heap.new.nodes) }
-    ensures variables { heap.new.depths ≡ heap.old.depths }
-    ensures grows { Grows heap.old heap.new [] [] }
-{
-    let r = heap.level(level)?;
-    heap.is_sound();
-    Ok(r)
 }
 
 /// Does a task that visits a level.
@@ -287,21 +205,6 @@ pub(crate) fn bare_var(heap: &mut Heap, v: VarId) -> Result<TermId, AllocError>
         node = made_lam(heap, depth, node)?;
     }
     Ok(node)
-}
-
-/// The node of a variable that has no value.
-pub(crate) fn made_var(heap: &mut Heap, v: VarId) -> Result<TermId, AllocError>
-    requires known { v.index < length heap.old.depths }
-    requires free { value_in heap.old.assigned v.index ≡ None }
-    ensures open { IfOk result (λ r. IsVarOf v.index (slice_index heap.old.depths v.index) (value_of heap.new r)) }
-    ensures head { IfOk result (λ r. IsHead (node_at heap.new.nodes r.index)) }
-    ensures there { IfOk result (λ r. r.index < length heap.new.nodes) }
-    ensures variables { heap.new.depths ≡ heap.old.depths }
-    ensures grows { Grows heap.old heap.new [] [] }
-{
-    let r = heap.var(v)?;
-    heap.is_sound();
-    Ok(r)
 }
 
 /// The nodes of the levels below a depth, moved.

@@ -16,4 +16,8 @@ pub mod ConstantLemmas
 pub mod TreeLemmas
 pub mod ValidLemmas
 pub mod ReadLemmas
+pub mod ReachLemmas
 pub mod MakeLemmas
+pub mod MarkLemmas
+pub mod GroundLemmas
+pub mod GainLemmas

@@ -8,6 +8,7 @@ use Rattle.level_terms.specs.Graph.{Graph, Assigned, node_at, value_in}
 use Rattle.level_terms.specs.declared.node.VarId.{VarId}
 use Rattle.level_terms.specs.Sound.{IsSound, IsHead, IsMade, AllMade, AllOlder}
 use Rattle.level_terms.specs.Valid.{valid}
+use Rattle.level_terms.specs.Reached.{tree, reaches}
 use Rattle.level_terms.specs.Reading.{read, enter, levels, variable_reads}
 use Rattle.level_terms.specs.Growth.{Grows}
 use Rattle.level_terms.proofs.LocalLemmas.{and_left, and_right}
@@ -22,8 +23,9 @@ use Rattle.ref_terms.specs.terms.Term.{Term, At}
 use Rattle.ref_terms.specs.terms.Eta.{lam}
 use Rattle.ref_terms.specs.terms.Apply.{apply}
 use Rattle.ref_terms.specs.unification.Spine.{apply_all}
-use Rattle.level_terms.specs.Values.{Value, value_of, IsLamOf, IsAppOf, IsLevelOf, IsVarOf}
+use Rattle.level_terms.specs.Values.{Value, value_of, AllMiss, IsLamOf, IsAppOf, IsLevelOf, IsVarOf}
 use Rattle.level_terms.proofs.ReadLemmas.{grown-reads}
+use Rattle.level_terms.proofs.ReachLemmas.{tree-grown, lam-misses, app-misses, level-misses, var-misses, parts-miss}
 
 -- the newest node
 pub newest : (n : Node) (older : List Node) → node_at (n ∷ older) (length older) ≡ Some n
@@ -37,7 +39,8 @@ pub value-kept : (g h : Graph) → IsSound g → Grows g h [] [] → (t : TermId
 value-kept g h s w t k =
     let terms = grown-reads g h s w t.index k in
     let depths = none_assigned-valid g h s w t.index k in
-    λ i. record { term = terms i; holds = depths i }
+    let trees = tree-grown g h s w t.index k in
+    λ i. record { term = terms i; holds = depths i; reached = λ v. reaches v (trees i) }
 
 pub values-kept : (g h : Graph) → IsSound g → Grows g h [] [] → (ts : List TermId) → AllOlder (length g.nodes) ts → map (value_of h) ts ≡ map (value_of g) ts
 values-kept g h s w [] k = refl
@@ -72,6 +75,7 @@ app-made g h k ts r s s' e made known there =
           ∙ ap₂ (λ (x : Value) (xs : List Value). apply_all (x.term env) (map (λ (y : Value). y.term env) xs)) head args;
       holds = λ d a b. nodes_valid h r.index (App k ts) d s' at
           ∙ and_both (valid h.nodes h.depths k.index d) _ (ap (λ (x : Value). x.holds d) head ∙ a) (all-hold h d ts (ap (λ (xs : List Value). list_all (λ (y : Value). y.holds d) xs) args ∙ b));
+      misses = λ v a b. app-misses h r.index k ts v s' at (ap (λ (x : Value). x.reached v) head ∙ a) (subst (AllMiss v) (sym args) b);
     }
 
 -- an abstraction
@@ -85,6 +89,7 @@ lam-made g h d b r s s' e made known =
       term = λ env p. nodes_read h r.index (Lam d b) env s' p at ∙ ap (λ (x : Value). lam (x.term (enter d env))) body;
       holds = λ q f l. nodes_valid h r.index (Lam d b) f s' at
           ∙ and_both (nat_lt d (suc f)) _ (below d f l) (ap (λ (x : Value). x.holds (suc d)) body ∙ subst (λ n. valid g.nodes g.depths b.index n ≡ true) (let z : d + 1 ≡ suc d = omega arith in z) q);
+      misses = λ v q. lam-misses h r.index d b v s' at (ap (λ (x : Value). x.reached v) body ∙ q);
     }
   where
     below : (d f : ℕ) → d ≤ f → nat_lt d (suc f) ≡ true
@@ -107,6 +112,10 @@ unholding : (g : Graph) (e : ℕ) (ts : List TermId) → list_all (λ (f : ℕ �
 unholding g e [] h = refl
 unholding g e (t ∷ ts) h = and_both (valid g.nodes g.depths t.index e) _ (and_left _ _ h) (unholding g e ts (and_right _ _ h))
 
+miss-append : (v : ℕ) (xs ys : List Value) → AllMiss v xs → AllMiss v ys → AllMiss v (xs ++ ys)
+miss-append v [] ys a b = b
+miss-append v (x ∷ xs) ys a b = (a.0, miss-append v xs ys a.1 b)
+
 pub app-flattened : (g : Graph) (t k : TermId) (ts us : List TermId) (x : Value) → IsSound g → node_at g.nodes t.index ≡ Some (App k ts) →
     IsAppOf (value_of g k) (map (value_of g) (ts ++ us)) x → IsAppOf (value_of g t) (map (value_of g) us) x
 app-flattened g t k ts us x s e w = record {
@@ -119,6 +128,9 @@ app-flattened g t k ts us x s e w = record {
       w.holds d (and_left _ _ both)
       (ap (λ (xs : List Value). list_all (λ (y : Value). y.holds d) xs) (map-append (value_of g) ts us)
       ∙ list_all-append (λ (y : Value). y.holds d) (map (value_of g) ts) (map (value_of g) us) (unholding g d ts (and_right _ _ both)) b);
+  misses = λ v a b.
+      let parts = parts-miss g t.index k ts v s e a in
+      w.misses v parts.0 (subst (AllMiss v) (sym (map-append (value_of g) ts us)) (miss-append v (map (value_of g) ts) (map (value_of g) us) parts.1 b));
 }
 
 -- the parts of a node are there
@@ -195,6 +207,7 @@ level-made g h l r s e made =
     record {
       term = λ env p. nodes_read h r.index (Level l) env s p at;
       holds = λ d k. nodes_valid h r.index (Level l) d s at ∙ below_true l d k;
+      misses = λ v. level-misses h r.index l v s at;
     }
 
 -- a variable that has no value
@@ -210,6 +223,7 @@ var-made g h v r s e made free =
       holds = λ d k. nodes_valid h r.index (Var v) d s at
           ∙ ap (λ (ds : List ℕ). nat_lt (slice_index ds v.index) (suc d)) depths
           ∙ below_true (slice_index g.depths v.index) (suc d) (omega (arith, k));
+      misses = λ w q. var-misses h r.index v w s at none q;
     }
 
 slice-last : (ds : List ℕ) (d : ℕ) → slice_index (ds ++ d ∷ []) (length ds) ≡ d

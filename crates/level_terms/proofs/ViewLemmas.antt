@@ -8,7 +8,7 @@ use Rattle.level_terms.specs.Graph.{node_at}
 nat_eq-suc : (a b : ℕ) → nat_eq a b ≡ nat_eq (suc a) (suc b)
 nat_eq-suc a b = grind (arith, nat_tests)
 
-slice_get-snoc : (xs : List Node) (n : Node) (t : ℕ) → slice_get (xs ++ n ∷ []) t ≡ cond (nat_eq (length xs) t) (Some n) (slice_get xs t)
+pub slice_get-snoc : {A : Type 0} (xs : List A) (n : A) (t : ℕ) → slice_get (xs ++ n ∷ []) t ≡ cond (nat_eq (length xs) t) (Some n) (slice_get xs t)
 slice_get-snoc [] n zero = refl
 slice_get-snoc [] n (suc t) = rw (ne_eqb 0 (suc t) (omega arith)) refl
 slice_get-snoc (x ∷ xs) n zero = rw (ne_eqb (suc (length xs)) 0 (omega arith)) refl

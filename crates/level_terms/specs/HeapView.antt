@@ -1,11 +1,12 @@
 -- What a heap keeps, as contracts see it.
-use Rattle.std.specs.Prelude.{◌≡◌, ℕ, ◌+◌, ◌≤◌, ◌<◌, ◌^◌, List, [], ◌∷◌, map, reverse, Option, option_map, slice_get, None, cond, is_some, sum_by, vec_len, vec_capacity}
+use Rattle.std.specs.Prelude.{◌≡◌, ℕ, ◌+◌, ◌≤◌, ◌<◌, ◌^◌, List, [], ◌∷◌, map, reverse, length, Option, option_map, slice_get, Some, None, cond, is_some, sum_by, vec_len, vec_capacity}
 use Rattle.std.specs.Option.{option_flatten}
 use Rattle.level_terms.specs.declared.heap.Heap.TheInside.{Inside}
 use Rattle.level_terms.specs.declared.heap.Cell.{Cell}
 use Rattle.level_terms.specs.declared.heap.Binding.{Binding}
 use Rattle.level_terms.specs.Graph.{Graph, Assigned, value_in}
 use Rattle.level_terms.specs.Sound.{IsSound}
+use Rattle.level_terms.specs.GroundNormal.{ground_normal}
 
 -- an assignment, as contracts see it
 abbrev pub assigned_by : Binding → Assigned
@@ -44,7 +45,13 @@ pub record IsConsistent (h : Inside) : Type 0 where
   pub few : vec_len h.cells < 2 ^ 32
   pub once : AllOnce (assigned_all h.bindings.items)
 
+-- each node has its bit
+pub record IsMarked (h : Inside) : Type 0 where
+  pub many : vec_len h.fixed ≡ vec_len h.nodes
+  pub bits : (t : ℕ) → t < length h.nodes.items → slice_get h.fixed.items t ≡ Some (ground_normal (reverse h.nodes.items) t)
+
 -- the fields agree, and the heap is sound
 pub record IsHeap (h : Inside) : Type 0 where
   pub consistent : IsConsistent h
+  pub marked : IsMarked h
   pub sound : IsSound (graph_of h)

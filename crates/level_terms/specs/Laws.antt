@@ -1,5 +1,5 @@
 -- What the laws on heaps and their readings say.
-use Rattle.std.specs.Prelude.{◌≡◌, ℕ, ◌<◌, ◌≤◌, List, [], ◌∷◌, ◌++◌, length, take, Some}
+use Rattle.std.specs.Prelude.{◌≡◌, ℕ, ◌<◌, ◌≤◌, true, List, [], ◌∷◌, ◌++◌, length, take, Some}
 use Rattle.level_terms.specs.declared.node.Node.{Node}
 use Rattle.level_terms.specs.declared.node.Change.{Change}
 use Rattle.level_terms.specs.declared.node.HeapMark.{HeapMark}
@@ -9,6 +9,8 @@ use Rattle.level_terms.specs.Layer.{layer_of}
 use Rattle.level_terms.specs.Valid.{valid, layer_valid, IsValid}
 use Rattle.level_terms.specs.Sound.{IsSound}
 use Rattle.level_terms.specs.Growth.{Grows}
+use Rattle.level_terms.specs.GroundNormal.{ground_normal, IsGroundNormal, is_ground_normal}
+use Rattle.level_terms.specs.Reached.{IsUnreached}
 use Rattle.level_terms.specs.Undo.{undone, mark_of, IsTrailOf, IsWithin, CanUndo}
 use Rattle.ref_terms.specs.terms.Term.{Term, At, Name, Bound}
 use Rattle.ref_terms.specs.terms.Instance.{inst}
@@ -100,3 +102,23 @@ UndoTwiceIsUndo = (a b : HeapMark) (g : Graph) → IsWithin b g → IsWithin a (
 -- and the earlier one isn't past the heap
 abbrev pub EarlierIsWithin : Type 0
 EarlierIsWithin = (a b : HeapMark) (g : Graph) → IsWithin b g → IsWithin a (undone b g) → IsWithin a g
+
+-- a node in which neither a variable nor an applied abstraction stands stays one, and no other node becomes one
+abbrev pub GroundNormalStays : Type 0
+GroundNormalStays = (g h : Graph) (r s : List Change) (t : ℕ) → Grows g h r s → t < length g.nodes → ground_normal h.nodes t ≡ ground_normal g.nodes t
+
+-- also where the heap goes back to a mark past the node
+abbrev pub GroundNormalUndone : Type 0
+GroundNormalUndone = (m : HeapMark) (g : Graph) (t : ℕ) → IsWithin m g → t < m.nodes → ground_normal (undone m g).nodes t ≡ ground_normal g.nodes t
+
+-- it reads the same whatever is assigned
+abbrev pub GroundNormalReads : Type 0
+GroundNormalReads = (g : Graph) (bs : List Assigned) (t : ℕ) (env : ℕ → Term) → IsGroundNormal g t → ArePlaces env → read (record g { assigned = bs }) t env ≡ read g t env
+
+-- no variable is reached from it
+abbrev pub GroundNormalUnreached : Type 0
+GroundNormalUnreached = (g : Graph) (t v : ℕ) → IsGroundNormal g t → IsUnreached g v t
+
+-- neither a variable nor a stuck abstraction stands in what it reads as
+abbrev pub GroundNormalTerm : Type 0
+GroundNormalTerm = (g : Graph) (t : ℕ) (env : ℕ → Term) → IsGroundNormal g t → ArePlaces env → is_ground_normal (read g t env) ≡ true

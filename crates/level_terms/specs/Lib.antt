@@ -4,7 +4,9 @@ pub mod Reading
 pub mod Valid
 pub mod Reached
 pub mod Sound
+pub mod GroundNormal
 pub mod Growth
+pub mod Gains
 pub mod Undo
 pub mod HeapView
 pub mod Laws

@@ -1,7 +1,10 @@
 //! The heap.
 
-ghost use Rattle.std.specs.Prelude.{◌≡◌, [], ◌∷◌, ◌++◌, ◌+◌, ◌<◌, ◌≤◌, length, take, IfOk, OnOk, OnErr, slice_index, option_map, IfSome};
+ghost use Rattle.std.specs.Prelude.{◌≡◌, [], ◌∷◌, ◌++◌, ◌+◌, ◌<◌, ◌≤◌, length, map, take, IfOk, OnOk, OnErr, slice_index, option_map, IfSome};
+ghost use Rattle.std.specs.List.{list_all};
 ghost use Rattle.level_terms.specs.Graph.{Graph, node_at, value_in};
+ghost use Rattle.level_terms.specs.Layer.{layer_of, application};
+ghost use Rattle.level_terms.specs.GroundNormal.{ground_normal, layer_look, look_at};
 ghost use Rattle.level_terms.specs.Valid.{IsValid};
 ghost use Rattle.level_terms.specs.Reached.{IsUnreached};
 ghost use Rattle.level_terms.specs.Sound.{IsSound, IsMade, IsHead, AllOlder};
@@ -33,12 +36,14 @@ const _: () = prove!(size_of::<Cell>() == 16);
 
 const _: () = prove!(size_of::<Binding>() == 8);
 
-/// Nodes, variables and their values. Contracts see the nodes newest first, the depth of each
+/// Nodes, variables and their values; beside each node a bit, whether neither a variable nor an
+/// applied abstraction stands in it. Contracts see the nodes newest first, the depth of each
 /// variable, and the assignments newest first; `read` is the term that a node means.
 #[derive(Drop)]
 pub struct Heap {
     alloc: Global,
     nodes: Vec<Node>,
+    fixed: Vec<bool>,
     cells: Vec<Cell>,
     bindings: Vec<Binding>,
 }
@@ -63,6 +68,7 @@ impl Heap {
         Heap {
             alloc,
             nodes: Vec::new(alloc),
+            fixed: Vec::new(alloc),
             cells: Vec::new(alloc),
             bindings: Vec::new(alloc),
         }
@@ -192,6 +198,15 @@ impl Heap {
         &self.nodes[t.index as usize]
     }
 
+    /// Whether neither a variable nor an applied abstraction stands in the node. Then its reading
+    /// stays as it is, whatever is assigned. Takes constant time.
+    pub fn is_ground_normal(&self, t: TermId) -> bool
+        requires { t.index < length self.now.nodes }
+        ensures { result ≡ ground_normal self.now.nodes t.index }
+    {
+        self.fixed[t.index as usize]
+    }
+
     /// Does nothing. Its contract is what holds of every heap.
     pub fn is_sound(&self)
         ensures { IsSound self.now }
@@ -252,6 +267,62 @@ impl Heap {
         }
         self.nodes.truncate(m.nodes);
         self.cells.truncate(m.variables);
+        self.fixed.truncate(m.nodes);
+    }
+
+    /// Whether the node is an abstraction.
+    fn is_lam(&self, t: TermId) -> bool
+        requires { t.index < length self.now.nodes }
+        ensures { result ≡ (look_at self.now.nodes t.index).is_lam }
+    {
+        self.is_sound();
+        match self.view(t) {
+            Node::Lam { .. } => true,
+            _ => false,
+        }
+    }
+
+    /// Whether neither a variable nor an applied abstraction stands in any of the nodes.
+    fn are_fixed(&self, ts: &[TermId]) -> bool
+        requires { AllOlder (length self.now.nodes) ts.now }
+        ensures { result ≡ list_all (λ t. ground_normal self.now.nodes t.index) ts.now }
+    {
+        for t in ts {
+            if !self.is_ground_normal(*t) {
+                return false;
+            }
+        }
+        true
+    }
+
+    /// Whether neither a variable nor an applied abstraction stands in an application, by the bits of
+    /// its parts.
+    fn is_fixed_app(&self, head: TermId, args: &[TermId]) -> bool
+        requires head { head.index < length self.now.nodes }
+        requires args { AllOlder (length self.now.nodes) args.now }
+        ensures { result ≡ (layer_look (application (look_at self.now.nodes head.index) (map (λ t. look_at self.now.nodes t.index) args.now))).is_fixed }
+    {
+        if self.is_lam(head) {
+            return false;
+        }
+        if self.is_ground_normal(head) {
+            return self.are_fixed(args);
+        }
+        false
+    }
+
+    /// Whether neither a variable nor an applied abstraction stands in a node that is new, by the
+    /// bits of its parts.
+    fn is_fixed(&self, node: &Node) -> bool
+        requires { IsMade self.now.nodes (length self.now.depths) node.now }
+        ensures { result ≡ (layer_look (layer_of (look_at self.now.nodes) node.now)).is_fixed }
+    {
+        match node {
+            Node::Lam { body, .. } => self.is_ground_normal(*body),
+            Node::App { head, args } => self.is_fixed_app(*head, args.as_slice()),
+            Node::Var(_) => false,
+            _ => true,
+        }
     }
 
     /// Adds a node. Nodes are numbered by 32 bits, so a heap with 2^32 of them is full.
@@ -265,7 +336,10 @@ impl Heap {
         if index > u32::MAX as usize {
             return Err(AllocError);
         }
+        let fixed = self.is_fixed(&node);
+        self.fixed.reserve(1)?;
         self.nodes.push(node)?;
+        self.fixed.push_reserved(fixed);
         Ok(TermId {
             index: index as u32,
         })

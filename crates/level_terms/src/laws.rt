@@ -1,6 +1,6 @@
 //! What holds of heaps and their readings. Each function does nothing: its contract is the law.
 
-ghost use Rattle.level_terms.specs.Laws.{NodesRead, ReadingsAreLocal, MakersKeepReadings, GrowthKeepsReadings, NodesAreValid, ValidDeeper, GrowthKeepsValid, AssignmentInstantiates, GrowthIsReflexive, GrowthIsTransitive, GrowthWithoutNotes, GrowthKeepsTrail, GrowthKeepsMarks, UndoIgnoresGrowth, UndoIgnoresNotes, MarksCanBeUndoneTo, UndoToNowIsNothing, UndoTwiceIsUndo, EarlierIsWithin};
+ghost use Rattle.level_terms.specs.Laws.{NodesRead, ReadingsAreLocal, MakersKeepReadings, GrowthKeepsReadings, NodesAreValid, ValidDeeper, GrowthKeepsValid, AssignmentInstantiates, GrowthIsReflexive, GrowthIsTransitive, GrowthWithoutNotes, GrowthKeepsTrail, GrowthKeepsMarks, UndoIgnoresGrowth, UndoIgnoresNotes, MarksCanBeUndoneTo, UndoToNowIsNothing, UndoTwiceIsUndo, EarlierIsWithin, GroundNormalStays, GroundNormalUndone, GroundNormalReads, GroundNormalUnreached, GroundNormalTerm};
 
 /// A node reads as its parts make it, and an assigned variable as its value. What a node that is
 /// valid at a depth reads as hangs on the levels below the depth alone.
@@ -49,4 +49,14 @@ pub fn law_undo()
 pub fn law_undo_twice()
     ensures heap { UndoTwiceIsUndo }
     ensures within { EarlierIsWithin }
+{}
+
+/// Where neither a variable nor an applied abstraction stands in a node, that stays so, and what the
+/// node reads as hangs on no value, reaches no variable and has no stuck abstraction.
+pub fn law_ground_normal()
+    ensures stays { GroundNormalStays }
+    ensures undone { GroundNormalUndone }
+    ensures reads { GroundNormalReads }
+    ensures unreached { GroundNormalUnreached }
+    ensures term { GroundNormalTerm }
 {}

@@ -1,12 +1,13 @@
 //! The terms of the search, in one heap: nodes that share their parts, variables that are assigned
 //! in place, and marks to which both go back.
 //!
-//! A node takes 40 bytes, and more only where it has over four arguments. A variable takes 16 bytes,
+//! A node takes 41 bytes, and more only where it has over four arguments. A variable takes 16 bytes,
 //! and 8 more for its place in the order of assignments; an entry of the trail takes 4. Numbers of
 //! nodes and of variables have 32 bits: a heap that has used them up answers want of memory.
 //!
-//! Makers, `view`, `value`, `var_depth`, `assign` and `mark` take constant time, but for the moving
-//! of a list that grows. `undo` is linear in what it takes back.
+//! Makers, `view`, `value`, `var_depth`, `is_ground_normal`, `assign` and `mark` take constant time,
+//! but for the moving of a list that grows; an application's makers are linear in its arguments.
+//! `undo` is linear in what it takes back.
 #![tactic(auto)]
 
 mod heap;

@@ -67,6 +67,7 @@ fn reads_nodes_back(rt: HostRuntime) -> Result<(), Fail> {
     assert!(rt; is_seen(heap.view(short), &Seen::App(0, 1, 4, 2)));
     assert!(rt; is_seen(heap.view(long), &Seen::App(0, 1, 4, 5)));
     assert!(rt; is_seen(heap.view(b), &Seen::Lam(0, 6)));
+    assert!(rt; heap.is_ground_normal(n) && !heap.is_ground_normal(b));
     Ok(())
 }
 

@@ -6,7 +6,7 @@ use Rattle.ref_terms.specs.terms.Ready.{ready}
 use Rattle.ref_terms.specs.terms.Apply.{apply, below, fill}
 use Rattle.ref_terms.specs.terms.Occurs.{is_variable, occurs}
 use Rattle.ref_terms.specs.lemmas.NameLemmas.{or_left, or_right, or_both}
-use Rattle.pattern_unify.proofs.UnreachedLemmas.{occurs-ren, occurs-lam}
+use Rattle.pattern_unify.proofs.OccursLemmas.{occurs-ren, occurs-lam}
 
 absent-sub : (v : ℕ) (s : ℕ → Term) → ((i : ℕ) → occurs v (s i) ≡ false) → (t : Term) → occurs v t ≡ false → occurs v (sub s t) ≡ false
 absent-sub v s h (Lam b) e = absent-sub v (under s) absent-under b e

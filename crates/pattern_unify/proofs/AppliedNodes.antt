@@ -13,11 +13,10 @@ use Rattle.level_terms.proofs.GrowthLemmas.{grows-node, grows-trans}
 use Rattle.level_terms.proofs.ValidLemmas.{growth_keeps_readings, growth_keeps_valid, valid_deeper}
 use Rattle.ref_terms.specs.terms.Apply.{apply}
 use Rattle.beta_fragment.specs.Names.{names}
-use Rattle.beta_fragment.specs.Moves.{value_of, IsAppOf, IsLevelOf}
+use Rattle.level_terms.specs.Values.{value_of, IsAppOf, IsLevelOf}
 use Rattle.beta_fragment.proofs.EnterLemmas.{names-places}
-use Rattle.beta_fragment.proofs.MakeLemmas.{and_both, app-made, app-flattened, parts-there, older-append, older-grown}
-use Rattle.beta_fragment.proofs.MoveLemmas.{level-made}
-use Rattle.beta_fragment.proofs.ReadLemmas.{valid-below}
+use Rattle.level_terms.proofs.MakeLemmas.{and_both, app-made, app-flattened, parts-there, older-append, older-grown, level-made}
+use Rattle.level_terms.proofs.ReadLemmas.{valid-below}
 use Rattle.pattern_unify.proofs.KeepNodes.{node-made, node-kept}
 use Rattle.pattern_unify.proofs.ReachedLemmas.{unreached-grown, first-unreached, last-unreached}
 

@@ -3,7 +3,6 @@ use Rattle.std.proofs.Common.{◌≡◌, ℕ, ◌||◌, List, [], ◌∷◌, len
 use Rattle.level_terms.specs.Graph.{Graph}
 use Rattle.level_terms.specs.Sound.{IsSound}
 use Rattle.level_terms.specs.Reading.{read}
-use Rattle.level_terms.specs.Reached.{IsUnreached}
 use Rattle.ref_terms.specs.terms.Term.{Term, Head, At, Con, Int, Str, Name, Bound, Var}
 use Rattle.ref_terms.specs.terms.Index.{sub}
 use Rattle.ref_terms.specs.terms.Apply.{apply, fill}
@@ -15,10 +14,9 @@ use Rattle.ref_terms.specs.lemmas.ReadyFacts.{ready-name}
 use Rattle.ref_terms.specs.unification.Closing.{close_all, names_below}
 use Rattle.beta_fragment.specs.Names.{names, renamed, AreDistinct}
 use Rattle.beta_fragment.proofs.NamelessLemmas.{nameless-read}
-use Rattle.beta_fragment.proofs.ReadLemmas.{read-built, read-follows}
+use Rattle.level_terms.proofs.ReadLemmas.{read-built, read-follows}
 use Rattle.pattern_unify.specs.Binding.{HasPositions, IsNameless}
 use Rattle.pattern_unify.specs.Bound.{NamesAmong}
-use Rattle.pattern_unify.proofs.UnreachedLemmas.{unread_unreached}
 use Rattle.pattern_unify.proofs.AbsentLemmas.{absent-fill}
 use Rattle.pattern_unify.proofs.CloseNames.{rename, rename-nameless, close-positions}
 
@@ -56,9 +54,8 @@ rename-absent v table (Int c) e = refl
 rename-absent v table (Str c) e = refl
 rename-absent v table (Var w) e = e
 
-pub positions-unreached : (g h : Graph) (t r v : ℕ) (list : List ℕ) → IsSound g → read h r names ≡ read g t (renamed list) → occurs v (read g t names) ≡ false → IsUnreached h v r
-positions-unreached g h t r v list s e absent =
-    unread_unreached h v r names (ap (occurs v) (e ∙ read-renamed g s t list) ∙ absent-fill v (rename list) (rename-absent v list) (read g t names) absent)
+pub positions-absent : (g h : Graph) (t r v : ℕ) (list : List ℕ) → IsSound g → read h r names ≡ read g t (renamed list) → occurs v (read g t names) ≡ false → occurs v (read h r names) ≡ false
+positions-absent g h t r v list s e absent = ap (occurs v) (e ∙ read-renamed g s t list) ∙ absent-fill v (rename list) (rename-absent v list) (read g t names) absent
 
 -- a term without names, applied to a name and closed over it
 pub nameless-value : (g : Graph) (t n : ℕ) → IsNameless (read g t names) → close_all (n ∷ []) (apply (read g t names) (names n)) ≡ read g t names

@@ -10,9 +10,9 @@ use Rattle.ref_terms.specs.unification.Problem as problem
 use Rattle.ref_terms.specs.unification.Problem.{Goes}
 use Rattle.ref_terms.specs.unification.Bind.{inst_equation}
 use Rattle.beta_fragment.specs.Names.{names}
-use Rattle.beta_fragment.proofs.ReadLemmas.{valid-below}
+use Rattle.level_terms.proofs.ReadLemmas.{valid-below}
 use Rattle.pattern_unify.specs.declared.equation.Equation.{Equation}
-use Rattle.pattern_unify.specs.Answers.{bound}
+use Rattle.ref_terms.specs.search.Branch.{bound}
 use Rattle.pattern_unify.specs.Bound.{IsBound}
 use Rattle.pattern_unify.specs.Equations.{equation_at, equations_at, IsValidEquation, AllValidEquations}
 use Rattle.pattern_unify.specs.Turns.{GoesOn}

@@ -17,7 +17,7 @@ use Rattle.ref_terms.specs.unification.Closing.{closing, close, close_all, up_fr
 use Rattle.beta_fragment.specs.Names.{AreDistinct}
 use Rattle.pattern_unify.specs.Binding.{AreFirst, HasPositions, IsNameless}
 use Rattle.pattern_unify.specs.Bound.{NamesAmong}
-use Rattle.pattern_unify.proofs.UnreachedLemmas.{or_left, or_right}
+use Rattle.pattern_unify.proofs.OccursLemmas.{or_left, or_right}
 
 -- so many abstractions
 abbrev lams : ℕ → Term → Term

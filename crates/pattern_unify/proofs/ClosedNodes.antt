@@ -17,9 +17,8 @@ use Rattle.ref_terms.specs.terms.Apply.{apply}
 use Rattle.ref_terms.specs.unification.Closing.{close_all, names_below}
 use Rattle.beta_fragment.specs.Names.{names}
 use Rattle.beta_fragment.proofs.EnterLemmas.{body-entered}
-use Rattle.beta_fragment.proofs.MakeLemmas.{and_both}
-use Rattle.beta_fragment.proofs.MoveLemmas.{below_true}
-use Rattle.beta_fragment.proofs.ReadLemmas.{valid-below}
+use Rattle.level_terms.proofs.MakeLemmas.{and_both, below_true}
+use Rattle.level_terms.proofs.ReadLemmas.{valid-below}
 use Rattle.pattern_unify.specs.Bound.{IsBound, LeavesOthers}
 use Rattle.pattern_unify.specs.Closed.{ClosesAlike, closed_at}
 use Rattle.pattern_unify.proofs.ClosedTerms.{assigned-closed, closed-applied}

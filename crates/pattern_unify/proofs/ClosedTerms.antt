@@ -26,7 +26,7 @@ use Rattle.beta_fragment.specs.Names.{names}
 use Rattle.beta_fragment.specs.Moves.{Lacks}
 use Rattle.beta_fragment.proofs.EnterLemmas.{names-places}
 use Rattle.beta_fragment.proofs.NamelessLemmas.{nameless-read, lacks-enter}
-use Rattle.beta_fragment.proofs.ReadLemmas.{read-built}
+use Rattle.level_terms.proofs.ReadLemmas.{read-built}
 
 -- the levels with no name at one of them
 abbrev without : ℕ → ℕ → Term

@@ -13,7 +13,7 @@ use Rattle.ref_terms.specs.unification.Problem.{Problem, Binding, Step}
 use Rattle.ref_terms.specs.unification.Rules.{equations_of}
 use Rattle.beta_fragment.specs.Names.{names}
 use Rattle.beta_fragment.specs.HeadForm.{all_read, AllValidAt}
-use Rattle.beta_fragment.proofs.ReadLemmas.{valid-below}
+use Rattle.level_terms.proofs.ReadLemmas.{valid-below}
 use Rattle.pattern_unify.specs.declared.equation.Equation.{Equation}
 use Rattle.pattern_unify.specs.Equations.{equation_at, equations_at, problem_at, arguments_of, IsValidEquation, AllValidEquations}
 

@@ -18,7 +18,7 @@ use Rattle.ref_terms.specs.unification.Bind.{bind_fresh}
 use Rattle.ref_terms.specs.unification.Offence.{Verdict, fine, dropped, offence}
 use Rattle.ref_terms.specs.unification.Rules.{same_variable, two_variables, by_verdict, bind_to, flex_flex}
 use Rattle.beta_fragment.specs.Names.{names}
-use Rattle.beta_fragment.proofs.ReadLemmas.{valid-below}
+use Rattle.level_terms.proofs.ReadLemmas.{valid-below}
 use Rattle.pattern_unify.specs.declared.equation.Equation.{Equation}
 use Rattle.pattern_unify.specs.declared.equation.Turn.{Turn}
 use Rattle.pattern_unify.specs.Bound.{IsBound}

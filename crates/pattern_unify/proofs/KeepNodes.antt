@@ -20,8 +20,8 @@ use Rattle.ref_terms.specs.terms.Term.{Term, At}
 use Rattle.ref_terms.specs.unification.Spine.{apply_all}
 use Rattle.ref_terms.specs.lemmas.NameLemmas.{or_both}
 use Rattle.beta_fragment.specs.Names.{AllBelow}
-use Rattle.beta_fragment.proofs.MakeLemmas.{and_both, newest}
-use Rattle.beta_fragment.proofs.MoveLemmas.{node-after, below_true}
+use Rattle.level_terms.proofs.MakeLemmas.{and_both, newest, below_true}
+use Rattle.beta_fragment.proofs.MoveLemmas.{node-after}
 use Rattle.pattern_unify.specs.Keeping.{AreLevels, IsVarOver, IsSpineOf}
 use Rattle.pattern_unify.proofs.ReachedLemmas.{full, level-tree}
 

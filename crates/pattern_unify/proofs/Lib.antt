@@ -5,6 +5,7 @@ pub mod KeepNodes
 pub mod KeepValue
 pub mod KeptLemmas
 pub mod ReachedLemmas
+pub mod ReachedWork
 pub mod SpineNameLemmas
 pub mod PositionLemmas
 pub mod MeetLemmas
@@ -15,7 +16,7 @@ pub mod SideLemmas
 pub mod EquationLemmas
 pub mod ArgumentTurns
 pub mod TurnLemmas
-pub mod UnreachedLemmas
+pub mod OccursLemmas
 pub mod AbsentLemmas
 pub mod CloseNames
 pub mod BindingSteps

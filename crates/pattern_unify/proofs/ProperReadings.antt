@@ -22,12 +22,12 @@ use Rattle.ref_terms.specs.lemmas.TermLemmas.{ren_sub}
 use Rattle.ref_terms.proofs.unification.GeneralRun.{most-general}
 use Rattle.ref_terms.proofs.unification.RealRuns.{real-clashes}
 use Rattle.beta_fragment.specs.Names.{names}
-use Rattle.beta_fragment.proofs.ReadLemmas.{read-follows}
+use Rattle.level_terms.proofs.ReadLemmas.{read-follows}
 use Rattle.pattern_unify.specs.Answers.{problem_of}
 use Rattle.pattern_unify.specs.Unifiers.{IsMostGeneral, IsWithoutUnifier}
 use Rattle.pattern_unify.proofs.AbsentLemmas.{absent-apply, absent-fill}
 use Rattle.pattern_unify.proofs.ClosedTerms.{read-lacks}
-use Rattle.pattern_unify.proofs.UnreachedLemmas.{occurs-ren, occurs-lam}
+use Rattle.pattern_unify.proofs.OccursLemmas.{occurs-ren, occurs-lam}
 
 -- the variable stands in no term that a level stands for
 abbrev AreWithout : ℕ → (ℕ → Term) → Type 0

@@ -1,37 +1,15 @@
 -- What is reached from nodes that are made.
 use Rattle.std.proofs.Common.{◌≡◌, ℕ, suc, ◌<◌, ◌||◌, ◌++◌, List, [], ◌∷◌, length, map, Some, refl, sym, ap, ap₂, ◌∙◌, arith}
-use mathlib.Core.Path.{fun_ext}
 use Rattle.level_terms.specs.declared.node.Node.TheVariants.{Level, Lam, App}
 use Rattle.level_terms.specs.declared.node.TermId.{TermId}
-use Rattle.level_terms.specs.declared.node.Change.{Change}
-use Rattle.level_terms.specs.declared.node.Node.{Node}
-use Rattle.level_terms.specs.Graph.{Graph, Assigned, node_at}
-use Rattle.level_terms.specs.Sound.{IsSound, AllAssigned}
-use Rattle.level_terms.specs.Growth.{Grows, changes_of}
-use Rattle.level_terms.specs.Reached.{Tree, Leaf, One, Two, plant, reaches, grown, layer_tree, node_tree, put, trees_of, tree, IsUnreached}
-use Rattle.level_terms.proofs.FoldLemmas.{over-at, over-older, names_older}
-use Rattle.level_terms.proofs.GrowthLemmas.{changes-length}
+use Rattle.level_terms.specs.Graph.{Graph, node_at}
+use Rattle.level_terms.specs.Sound.{IsSound}
+use Rattle.level_terms.specs.Growth.{Grows}
+use Rattle.level_terms.specs.Reached.{Tree, Leaf, One, Two, plant, reaches, grown, layer_tree, node_tree, trees_of, tree, IsUnreached}
+use Rattle.level_terms.proofs.FoldLemmas.{over-at, names_older}
+use Rattle.level_terms.proofs.ReachLemmas.{tree-grown}
 
--- the trees of values, in a heap with more nodes
-trees-grown : (new nodes : List Node) (k : ℕ) (bs : List Assigned) → AllAssigned (length nodes) k bs → (v : ℕ) → trees_of (new ++ nodes) bs v ≡ trees_of nodes bs v
-unfolding trees_of
-trees-grown new nodes k [] w v = refl
-trees-grown new nodes k (a ∷ older) w v =
-    let same = fun_ext (trees-grown new nodes k older w.2) in
-    ap₂ (λ (u : ℕ → Tree) (x : Tree). plant (put a.variable (plant u x)) (u v)) same (over-older layer_tree Leaf new nodes a.value w.0)
-
-none-assigned : (bs : List Assigned) → ◌≡◌ {A = List Change} [] ([] ++ changes_of bs) → bs ≡ []
-none-assigned [] e = refl
-none-assigned (b ∷ bs) e = absurd (let k : 0 ≡ suc (length bs) = ap length e ∙ changes-length (b ∷ bs) in omega (arith, k))
-
--- the tree of a node that was there stays as it was
-pub tree-grown : (g h : Graph) → IsSound g → Grows g h [] [] → (t : ℕ) → t < length g.nodes → tree h t ≡ tree g t
-unfolding tree
-tree-grown g h s w t below =
-    let same : h.assigned ≡ g.assigned = w.assigned ∙ ap (λ (bs : List Assigned). bs ++ g.assigned) (none-assigned w.new_assigned w.trail) in
-    ap₂ (λ (ns : List Node) (bs : List Assigned). plant (trees_of ns bs) (node_tree ns t)) w.nodes same
-    ∙ ap₂ plant (fun_ext (trees-grown w.new_nodes g.nodes (length g.depths) g.assigned s.assigned)) (over-older layer_tree Leaf w.new_nodes g.nodes t below)
-
+-- what isn't reached from a node isn't as the heap grows
 pub unreached-grown : (g h : Graph) → IsSound g → Grows g h [] [] → (t : ℕ) → t < length g.nodes → (v : ℕ) → IsUnreached g v t → IsUnreached h v t
 unreached-grown g h s w t below v e = ap (reaches v) (tree-grown g h s w t below) ∙ e
 

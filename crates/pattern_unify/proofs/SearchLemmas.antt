@@ -27,7 +27,7 @@ use Rattle.beta_fragment.specs.Names.{names, AllBelow}
 use Rattle.beta_fragment.specs.Quoted.{AllNamesBelow}
 use Rattle.beta_fragment.proofs.FirmLemmas.{apply-plain}
 use Rattle.beta_fragment.proofs.QuotableLemmas.{nameless-valid}
-use Rattle.beta_fragment.proofs.ReadLemmas.{valid-below, grown-reads}
+use Rattle.level_terms.proofs.ReadLemmas.{valid-below, grown-reads}
 use Rattle.pattern_unify.specs.Bound.{IsOpen}
 use Rattle.pattern_unify.specs.declared.offence.Verdict.{Verdict}
 use Rattle.pattern_unify.specs.declared.offence.Verdict.TheVariants.{Fine, Redex, Scope, Itself, Foreign, Dropped}

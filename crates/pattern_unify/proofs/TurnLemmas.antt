@@ -16,13 +16,13 @@ use Rattle.ref_terms.specs.unification.Shape as shape
 use Rattle.ref_terms.specs.unification.Shape.{Shape, shape}
 use Rattle.beta_fragment.specs.Names.{names}
 use Rattle.beta_fragment.proofs.HeadLemmas.{valid-grown_all, read-grown_all}
-use Rattle.beta_fragment.proofs.ReadLemmas.{valid-below}
+use Rattle.level_terms.proofs.ReadLemmas.{valid-below}
 use Rattle.pattern_unify.specs.declared.equation.Equation.{Equation}
 use Rattle.pattern_unify.specs.declared.equation.Turn.{Turn}
 use Rattle.pattern_unify.specs.declared.equation.Turn.TheVariants as turn
 use Rattle.pattern_unify.specs.declared.side.Side.{Side}
 use Rattle.pattern_unify.specs.declared.side.Side.TheVariants.{Abstraction, Redex, Rigid, Flexible}
-use Rattle.pattern_unify.specs.Answers.{bound}
+use Rattle.ref_terms.specs.search.Branch.{bound}
 use Rattle.pattern_unify.specs.Equations.{equation_at, equations_at, problem_at, IsValidEquation, AllValidEquations}
 use Rattle.pattern_unify.specs.Sides.{head_at, shape_at, IsSideAt}
 use Rattle.pattern_unify.specs.Turns.{GoesOn, IsTurn, rule_at}

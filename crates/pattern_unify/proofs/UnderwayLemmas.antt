@@ -14,7 +14,8 @@ use Rattle.ref_terms.proofs.unification.Steps.{unify-goes, unify-ends, steps-fal
 use Rattle.beta_fragment.specs.declared.answer.UnifyStop.TheVariants.{Fault}
 use Rattle.pattern_unify.specs.declared.equation.Equation.{Equation}
 use Rattle.pattern_unify.specs.declared.equation.Turn.TheVariants as turn
-use Rattle.pattern_unify.specs.Answers.{bound, problem_of, AnswersTrue, AnswersFalse, StopsSo}
+use Rattle.ref_terms.specs.search.Branch.{bound}
+use Rattle.pattern_unify.specs.Answers.{problem_of, AnswersTrue, AnswersFalse, StopsSo}
 use Rattle.pattern_unify.specs.Equations.{IsValidEquation, AllValidEquations, problem_at}
 use Rattle.pattern_unify.specs.Turns.{GoesOn, IsTurn}
 use Rattle.pattern_unify.specs.Underway.{IsUnderway}

@@ -3,9 +3,9 @@ use Rattle.std.specs.Prelude.{◌≡◌, ℕ, ◌<◌, Bool, List, [], ◌∷◌
 use Rattle.level_terms.specs.Graph.{Graph}
 use Rattle.level_terms.specs.Reading.{read}
 use Rattle.ref_terms.specs.terms.Term.{Term}
-use Rattle.ref_terms.specs.terms.Instance.{inst}
-use Rattle.ref_terms.specs.unification.Problem.{Problem, Binding, Solved, Clashed, Faulted, UnifyFault}
+use Rattle.ref_terms.specs.unification.Problem.{Problem, Solved, Clashed, Faulted, UnifyFault}
 use Rattle.ref_terms.specs.unification.Unification.{unify}
+use Rattle.ref_terms.specs.search.Branch.{bound}
 use Rattle.ref_terms.specs.search.Fault.{of_unification}
 use Rattle.beta_fragment.specs.declared.answer.UnifyStop.{UnifyStop}
 use Rattle.beta_fragment.specs.declared.answer.UnifyStop.TheVariants.{Fault, Memory}
@@ -14,11 +14,6 @@ use Rattle.beta_fragment.specs.Names.{names}
 -- the equation of two nodes in a heap: the next variable is the heap's
 abbrev pub problem_of : Graph → (s t depth : ℕ) → Problem
 problem_of g s t depth = record { next_var = length g.depths; equations = record { names = depth; left = read g s names; right = read g t names } ∷ []; bindings = [] }
-
--- a term under bindings, of which the newest stands first
-abbrev pub bound : List Binding → Term → Term
-bound [] t = t
-bound (b ∷ older) t = inst b.variable b.value (bound older t)
 
 -- what each node of the old heap means is what it meant, under the bindings; the variables are those that the rules make
 pub record ReadsUnder (old new : Graph) (p : Problem) : Type 0 where

@@ -6,6 +6,7 @@ pub mod Equations
 pub mod Keeping
 pub mod Own
 pub mod Places
+pub mod Reaching
 pub mod Searching
 pub mod Sides
 pub mod SpineNames

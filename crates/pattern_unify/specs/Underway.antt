@@ -6,7 +6,7 @@ use Rattle.ref_terms.specs.terms.Term.{Term}
 use Rattle.ref_terms.specs.unification.Problem.{Binding, Problem}
 use Rattle.ref_terms.specs.unification.Unification.{unify}
 use Rattle.pattern_unify.specs.declared.equation.Equation.{Equation}
-use Rattle.pattern_unify.specs.Answers.{bound}
+use Rattle.ref_terms.specs.search.Branch.{bound}
 use Rattle.pattern_unify.specs.Equations.{problem_at, AllValidEquations}
 
 -- the work that is left has the problem's answer, with the bindings made so far, which the heap has

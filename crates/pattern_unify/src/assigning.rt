@@ -1,16 +1,18 @@
 //! A variable gets a node, abstracted over levels, as its value.
 
-ghost use Rattle.std.specs.Prelude.{◌≡◌, ◌≤◌, [], IfOk, OnOk};
+ghost use Rattle.std.specs.Prelude.{◌≡◌, ◌≤◌, [], false, IfOk, OnOk};
 ghost use Rattle.level_terms.specs.Growth.{Grows};
 ghost use Rattle.level_terms.specs.Reached.{IsUnreached};
 ghost use Rattle.level_terms.specs.Reading.{read};
 ghost use Rattle.level_terms.specs.Valid.{IsValid};
+ghost use Rattle.ref_terms.specs.terms.Occurs.{occurs};
 ghost use Rattle.ref_terms.specs.unification.Closing.{close_all, names_below};
 ghost use Rattle.beta_fragment.specs.Names.{names};
 ghost use Rattle.pattern_unify.specs.Bound.{IsOpen, IsBound, LeavesOthers};
 ghost use Rattle.pattern_unify.specs.Closed.{ClosesAlike};
 
 use crate::applying::applied;
+use crate::reaching::node_without;
 use level_terms::{Change, Heap, TermId, VarId};
 use std::alloc::{AllocError, Global};
 use trail::Trail;
@@ -41,6 +43,30 @@ pub(crate) fn assign_over(
     heap.is_sound();
     heap.assign(trail, v, value);
     Ok(())
+}
+
+/// Gives the variable the body, abstracted over the levels below `count`, as its value, where the
+/// body lacks the variable. Where that is reached from the body's node all the same, the body is made
+/// anew.
+pub(crate) fn assign_absent(
+    alloc: Global,
+    heap: &mut Heap,
+    trail: &mut Trail<Change>,
+    v: VarId,
+    count: usize,
+    body: TermId,
+) -> Result<(), AllocError>
+    requires variable { IsOpen heap.old v.index }
+    requires valid { IsValid heap.old body.index count }
+    requires absent { occurs v.index (read heap.old body.index names) ≡ false }
+    ensures bound { OnOk result (IsBound heap.old heap.new v.index (close_all (names_below count) (read heap.old body.index names))) }
+    ensures others { LeavesOthers v.index heap.old heap.new }
+    ensures variables { heap.new.depths ≡ heap.old.depths }
+    ensures grows { Grows heap.old heap.new trail.old.entries trail.new.entries }
+{
+    heap.is_sound();
+    let node = node_without(alloc, heap, v, body, count)?;
+    assign_over(alloc, heap, trail, v, count, node)
 }
 
 /// A node under the second depth that closes as the body, under the first depth, does.

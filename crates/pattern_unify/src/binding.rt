@@ -11,7 +11,7 @@ ghost use Rattle.pattern_unify.specs.Binding.{AreFirst, HasPositions, IsNameless
 ghost use Rattle.pattern_unify.specs.Bound.{IsOpen, IsBound, LeavesOthers, NamesAmong};
 
 use crate::applying::applied;
-use crate::assigning::assign_over;
+use crate::assigning::assign_absent;
 use crate::validity::is_valid_at;
 use beta_fragment::{Names, lift};
 use level_terms::{Change, Heap, TermId, VarId};
@@ -40,7 +40,7 @@ pub(crate) fn bind(
     ensures grows { Grows heap.old heap.new trail.old.entries trail.new.entries }
 {
     if stands_as_it_is(alloc, heap, ns, t, depth)? {
-        return assign_over(alloc, heap, trail, v, ns.len(), t);
+        return assign_absent(alloc, heap, trail, v, ns.len(), t);
     }
     if ns.is_empty() {
         return bind_nameless(alloc, heap, trail, v, t, depth);
@@ -138,7 +138,7 @@ fn bind_renamed(
     let list = names_of(alloc, &table)?;
     let body = lift(alloc, heap, t, depth, ns.len(), &list)?;
     heap.is_sound();
-    assign_over(alloc, heap, trail, v, ns.len(), body)
+    assign_absent(alloc, heap, trail, v, ns.len(), body)
 }
 
 /// A table with a place for each level below the depth: at each name its position, and 0 elsewhere.

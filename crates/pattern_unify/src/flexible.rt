@@ -19,7 +19,7 @@ ghost use Rattle.pattern_unify.specs.Equations.{equation_at, equations_at, probl
 ghost use Rattle.pattern_unify.specs.Turns.{IsTurn};
 ghost use Rattle.pattern_unify.specs.Verdicts.{verdict_of, DropsAssignable};
 
-use crate::assigning::assign_over;
+use crate::assigning::assign_absent;
 use crate::binding::bind;
 use crate::equation::{Equation, Turn};
 use crate::meeting::{drop_position, keep_agreeing, meet};
@@ -248,7 +248,7 @@ fn by_verdict_in_scope(
     heap.is_sound();
     match verdict {
         Verdict::Fine => {
-            assign_over(alloc, heap, trail, v, e.depth, t)?;
+            assign_absent(alloc, heap, trail, v, e.depth, t)?;
             Ok(Turn::Goes)
         }
         _ => not_bound(alloc, heap, trail, work, e, verdict),

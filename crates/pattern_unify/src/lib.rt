@@ -13,6 +13,7 @@ mod meeting;
 mod offence;
 mod own;
 mod positions;
+mod reaching;
 mod rigid;
 mod side;
 mod solving;

@@ -22,7 +22,7 @@ use Rattle.ref_terms.specs.terms.Eta.{lam}
 use Rattle.beta_fragment.specs.Body.{IsLam}
 use Rattle.beta_fragment.specs.Names.{names}
 use Rattle.beta_fragment.specs.HeadForm.{IsAbstraction}
-use Rattle.beta_fragment.proofs.ReadLemmas.{valid-below, grown-reads, read-follows}
+use Rattle.level_terms.proofs.ReadLemmas.{valid-below, grown-reads, read-follows}
 use Rattle.term_print.specs.Chains.{IsKept, AreKept, IsBelow, BodyIsKept}
 use Rattle.term_print.proofs.LookLemmas.{node-stays}
 

@@ -28,7 +28,7 @@ use Rattle.beta_fragment.specs.Body.{IsLam, opened_reads}
 use Rattle.beta_fragment.specs.HeadForm.{IsHeadForm, rigid_head, all_read, IsAbstraction, ReadsAsLam, FirstUnready}
 use Rattle.beta_fragment.specs.declared.answer.Whnf.{Whnf}
 use Rattle.beta_fragment.specs.declared.answer.Whnf.TheVariants.{Lam as lam_form, Rigid, Flex, Redex}
-use Rattle.beta_fragment.proofs.ReadLemmas.{valid-below, grown-reads, read-built}
+use Rattle.level_terms.proofs.ReadLemmas.{valid-below, grown-reads, read-built}
 use Rattle.term_print.specs.Pieces.{is_bare, seen_term, argument_pieces}
 use Rattle.term_print.specs.declared.piece.Piece.{Piece}
 use Rattle.term_print.specs.declared.piece.Piece.TheVariants.{Argument}

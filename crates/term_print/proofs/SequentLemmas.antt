@@ -18,7 +18,7 @@ use Rattle.ref_terms.specs.texts.Answer.{separated, term_line, sequent_parts}
 use Rattle.ref_terms.specs.texts.Numbering.{numbered}
 use Rattle.beta_fragment.specs.Names.{names}
 use Rattle.beta_fragment.specs.HeadForm.{all_read, AllValidAt}
-use Rattle.beta_fragment.proofs.ReadLemmas.{valid-below, grown-reads}
+use Rattle.level_terms.proofs.ReadLemmas.{valid-below, grown-reads}
 use Rattle.term_print.specs.Written.{seen_after, GainsFront, Page, Prints, Stops}
 use Rattle.term_print.specs.Pieces.{page}
 use Rattle.term_print.specs.Sequents.{IsSequent, more_names, names_bytes, scope_bytes, more_lines, all_lines, sequent_line}

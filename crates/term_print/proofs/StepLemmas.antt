@@ -21,7 +21,7 @@ use Rattle.beta_fragment.specs.Names.{names}
 use Rattle.beta_fragment.specs.HeadForm.{rigid_head, all_read, AllValidAt, IsAbstraction, FirstUnready}
 use Rattle.beta_fragment.specs.declared.answer.RigidHead.{RigidHead}
 use Rattle.beta_fragment.specs.declared.answer.RigidHead.TheVariants.{Con, Int, Str, Level}
-use Rattle.beta_fragment.proofs.ReadLemmas.{valid-below, grown-reads}
+use Rattle.level_terms.proofs.ReadLemmas.{valid-below, grown-reads}
 use Rattle.term_print.specs.Chains.{AreKept}
 use Rattle.term_print.specs.Opened.{head_part, name_bytes, opened_parts}
 use Rattle.term_print.specs.Heads.{rigid_bytes, binder_bytes, infix_bytes}

@@ -18,10 +18,9 @@ use Rattle.level_terms.specs.Valid.{valid, layer_valid, IsValid}
 use Rattle.level_terms.proofs.GrowthLemmas.{changes-length}
 use Rattle.level_terms.proofs.ValidLemmas.{nodes_valid, valid_deeper, growth_keeps_valid}
 use Rattle.beta_fragment.specs.HeadForm.{AllValidAt}
-use Rattle.beta_fragment.specs.Moves.{Value, value_of}
-use Rattle.beta_fragment.proofs.MakeLemmas.{newest, and_both, app-made, lam-made}
-use Rattle.beta_fragment.proofs.MoveLemmas.{below_true}
-use Rattle.beta_fragment.proofs.ReadLemmas.{valid-below}
+use Rattle.level_terms.specs.Values.{Value, value_of}
+use Rattle.level_terms.proofs.MakeLemmas.{newest, and_both, app-made, lam-made, below_true}
+use Rattle.level_terms.proofs.ReadLemmas.{valid-below}
 
 -- where no variable had a value, none has one after a call that notes nothing
 pub stays-unassigned : (g h : Graph) → Grows g h [] [] → g.assigned ≡ [] → h.assigned ≡ []

@@ -9,7 +9,7 @@ use Rattle.level_terms.specs.Undo.{undone, mark_of, CanUndo}
 use Rattle.level_terms.specs.Valid.{IsValid}
 use Rattle.level_terms.proofs.GrowthLemmas.{grows-notes, grows-trans, ignores_growth, undo_now}
 use Rattle.level_terms.proofs.ValidLemmas.{growth_keeps_valid}
-use Rattle.beta_fragment.proofs.ReadLemmas.{valid-below}
+use Rattle.level_terms.proofs.ReadLemmas.{valid-below}
 
 -- a valid node stays so
 pub stays-valid : (g h : Graph) (r s : List Change) (t d : ℕ) → IsSound g → Grows g h r s → IsValid g t d → IsValid h t d

@@ -378,17 +378,33 @@ const UNIFICATIONS: &str = r#"0 a ≟ a ⇒ true ⇒ a
 1 ?0 #0 @1 ≟ ?1 a @1 ⇒ true ⇒ ?0 a
 1 ?0 #0 @1 ≟ ?1 #0 a @2 ⇒ true ⇒ ?0 #0 a
 0 ?0 a @1 ≟ ?1 b @1 ⇒ pattern
-0 f #0 #0 @2 \0 a @1 ≟ b ⇒ redex
-0 f #0 #0 @2 \0 a @1 ≟ ?0 ⇒ redex
-0 f #0 #0 @2 \0 a @1 ≟ #0 \0 ⇒ redex
-0 f #0 #0 @2 \0 a @1 ≟ f #0 #0 @2 \0 a @1 ⇒ redex
-0 ?0 ≟ g f #0 #0 @2 \0 a @1 @1 ⇒ redex
-0 f a f #0 #0 @2 \0 a @1 @2 ≟ f b b @2 ⇒ false
-2 ?0 #0 @1 ≟ g #1 f #0 #0 @2 \0 a @1 @2 ⇒ false
-2 ?0 #0 @1 ≟ g f #0 #0 @2 \0 a @1 #1 @2 ⇒ redex
+0 f #0 #0 @2 \0 ?1 @1 ≟ b ⇒ redex
+0 f #0 #0 @2 \0 ?1 @1 ≟ ?0 ⇒ redex
+0 f #0 #0 @2 \0 ?1 @1 ≟ #0 \0 ⇒ redex
+0 f #0 #0 @2 \0 ?1 @1 ≟ f #0 #0 @2 \0 ?1 @1 ⇒ redex
+0 ?0 ≟ g f #0 #0 @2 \0 ?1 @1 @1 ⇒ redex
+0 f a f #0 #0 @2 \0 ?1 @1 @2 ≟ f b b @2 ⇒ false
+2 ?0 #0 @1 ≟ g #1 f #0 #0 @2 \0 ?1 @1 @2 ⇒ false
+2 ?0 #0 @1 ≟ g f #0 #0 @2 \0 ?1 @1 #1 @2 ⇒ redex
 1 f #1 #1 @2 \1 #0 @1 ≟ f #0 #0 @2 ⇒ true ⇒ f #0 #0
 0 f #0 #0 @2 \0 a ! ≟ f a ?0 @2 ⇒ true ⇒ f a a
-0 f ?0 ?0 a @1 @2 ≟ f #0 #0 @1 \0 b @2 ⇒ redex
+0 f ?0 ?0 ?1 @1 @2 ≟ f #0 #0 @1 \0 b @2 ⇒ redex
+0 f ?0 ?0 a @1 @2 ≟ f #0 #0 @1 \0 b @2 ⇒ false
+0 f #0 #0 @2 \0 #0 \0 @1 ≟ b ⇒ redex
+0 f #0 #0 @2 \0 ?0 a @1 @1 ≟ b ⇒ redex
+0 f #0 #0 @2 \0 g a @1 @1 ≟ f g a @1 ?0 @2 ⇒ true ⇒ f (g a) (g a)
+0 #0 b @1 \0 g ?1 @1 @1 ≟ g 3 b @2 ⇒ true ⇒ g 3 b
+0 f #0 #0 @2 \0 "s @1 ≟ f "s "t @2 ⇒ false
+0 f ?0 f #0 #0 @2 \0 ?0 @1 @2 ≟ f a f a a @2 @2 ⇒ true ⇒ f a (f a a)
+0 ?0 ≟ a \0 b @1 ⇒ true ⇒ a
+0 a \0 g ?0 @1 @1 ≟ ?0 ⇒ true ⇒ a
+0 ?0 ≟ a \0 g ?0 @1 @1 ⇒ true ⇒ a
+0 ?0 ≟ f #0 #0 @2 \0 g ?0 @1 @1 ⇒ false
+0 ?0 ≟ f a \0 g ?0 @1 @1 #0 \0 @2 ⇒ true ⇒ f a (@0\ @0)
+1 ?2 ≟ a \1 g ?2 @1 @1 ⇒ true ⇒ a
+1 ?0 ≟ a \1 f #0 ?0 @2 @1 ⇒ true ⇒ a
+1 ?0 #0 @1 ≟ f #0 a \1 g ?0 @1 @1 @2 ⇒ true ⇒ f #0 a
+2 ?0 #1 @1 ≟ f #1 a \2 g ?0 @1 @1 @2 ⇒ true ⇒ f #1 a
 0 f ?0 ?0 a @1 @2 ≟ f g g a @1 @2 ⇒ true ⇒ f g (g a)
 0 f ?0 a @1 ?0 @2 ≟ f g a @1 g @2 ⇒ pattern"#;
 
@@ -412,7 +428,9 @@ const MATCHINGS: &str = r#"0 1 f ?1 @1 ≟ ?0 ⇒ false
 2 3 ?3 ≟ ?2 ⇒ true ⇒ ?0 #0
 2 3 ?2 ≟ ?2 ⇒ true ⇒ ?0 #0
 0 1 f #0 ?0 #0 @1 @2 \0 ≟ f #0 ?1 @2 \0 ⇒ false
-0 1 ?1 ≟ f #0 #0 @2 \0 a @1 ⇒ redex"#;
+0 1 ?1 ≟ f #0 #0 @2 \0 ?0 @1 ⇒ redex
+0 1 ?1 ≟ f #0 #0 @2 \0 g ?0 @1 @1 ⇒ true ⇒ f (g ?0) (g ?0)
+0 1 ?1 ≟ a \0 g ?1 @1 @1 ⇒ true ⇒ a"#;
 
 /// Rows of unification where a side with `^` stands inside 1,000,000 applications.
 const DEEP: &str = r#"0 ^ a ≟ ^ ?0 ⇒ true

@@ -1,7 +1,7 @@
 use Rattle.std.proofs.Common.{Some, ap, ◌∙◌, subst, arith}
 use Rattle.level_terms.specs.declared.node.Node.TheVariants.{Lam}
 use Rattle.level_terms.specs.Valid.{IsValid}
-use Rattle.beta_fragment.proofs.ReadLemmas.{valid-below}
+use Rattle.level_terms.proofs.ReadLemmas.{valid-below}
 use Rattle.beta_fragment.proofs.EnterLemmas.{body-entered, body-valid, enter-made}
 use Rattle.beta_fragment.proofs.body.enter.Goals as goal
 

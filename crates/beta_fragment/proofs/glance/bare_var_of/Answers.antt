@@ -1,8 +1,8 @@
 use Rattle.std.proofs.Common.{◌≡◌, suc, ◌∙◌, ap, Some, subst, arith, length}
 use Rattle.level_terms.specs.declared.node.Node.TheVariants.{Lam}
 use Rattle.level_terms.proofs.FoldLemmas.{parts_older, names_older}
-use Rattle.beta_fragment.specs.Moves.{IsVarOf, value_of}
-use Rattle.beta_fragment.proofs.MakeLemmas.{parts-there}
+use Rattle.level_terms.specs.Values.{IsVarOf, value_of}
+use Rattle.level_terms.proofs.MakeLemmas.{parts-there}
 use Rattle.beta_fragment.proofs.VarLemmas.{lam-var}
 use Rattle.beta_fragment.proofs.FirmLemmas.{lam-known}
 use Rattle.beta_fragment.proofs.TurnLemmas.{some-weaker}

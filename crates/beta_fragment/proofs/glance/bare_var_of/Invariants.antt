@@ -1,5 +1,5 @@
 use Rattle.std.proofs.Common.{ℕ, ◌<◌, length}
-use Rattle.beta_fragment.specs.Moves.{IsVarOf, value_of}
+use Rattle.level_terms.specs.Values.{IsVarOf, value_of}
 use Rattle.beta_fragment.proofs.glance.bare_var_of.Given as goal
 
 abbrev pub invariant-loop-depth : goal.invariant-loop-depth

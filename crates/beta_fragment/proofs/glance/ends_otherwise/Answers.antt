@@ -3,7 +3,7 @@ use Rattle.level_terms.specs.declared.node.Node.TheVariants.{App}
 use Rattle.level_terms.specs.declared.node.TermId.{TermId}
 use Rattle.level_terms.specs.Sound.{AllOlder}
 use Rattle.level_terms.proofs.ValidLemmas.{valid_deeper}
-use Rattle.beta_fragment.proofs.MakeLemmas.{parts-there, older-last}
+use Rattle.level_terms.proofs.MakeLemmas.{parts-there, older-last}
 use Rattle.beta_fragment.proofs.VarLemmas.{var-known}
 use Rattle.beta_fragment.proofs.StayLemmas.{var-stays, last-valid}
 use Rattle.beta_fragment.proofs.LevelLemmas.{repeats-ends}

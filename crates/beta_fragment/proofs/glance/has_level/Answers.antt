@@ -1,7 +1,7 @@
 use Rattle.std.proofs.Common.{◌∙◌, ap, sym, Some, List}
 use Rattle.level_terms.specs.declared.node.Node.TheVariants.{App}
 use Rattle.level_terms.specs.declared.node.TermId.{TermId}
-use Rattle.beta_fragment.proofs.MakeLemmas.{parts-there}
+use Rattle.level_terms.proofs.MakeLemmas.{parts-there}
 use Rattle.beta_fragment.proofs.LevelLemmas.{app-has}
 use Rattle.beta_fragment.proofs.glance.has_level.Goals as goal
 

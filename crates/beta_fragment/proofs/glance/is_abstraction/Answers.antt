@@ -1,7 +1,7 @@
 use Rattle.std.proofs.Common.{◌∙◌, suc, ap, Some, length}
 use Rattle.level_terms.specs.declared.node.Node.TheVariants.{Lam}
 use Rattle.level_terms.proofs.FoldLemmas.{parts_older, names_older}
-use Rattle.beta_fragment.proofs.MakeLemmas.{parts-there}
+use Rattle.level_terms.proofs.MakeLemmas.{parts-there}
 use Rattle.beta_fragment.proofs.EnterLemmas.{body-valid}
 use Rattle.beta_fragment.proofs.FirmLemmas.{lam-abstraction, abstraction-ends}
 use Rattle.beta_fragment.proofs.glance.is_abstraction.Goals as goal

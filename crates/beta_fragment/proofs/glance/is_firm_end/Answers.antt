@@ -1,6 +1,6 @@
 use Rattle.std.proofs.Common.{◌∙◌, ap, Some}
 use Rattle.beta_fragment.specs.Firm.{IsFirm}
-use Rattle.beta_fragment.proofs.MakeLemmas.{parts-there}
+use Rattle.level_terms.proofs.MakeLemmas.{parts-there}
 use Rattle.beta_fragment.proofs.VarLemmas.{var-known}
 use Rattle.beta_fragment.proofs.FirmLemmas.{by-node, var-firm, app-firm}
 use Rattle.beta_fragment.proofs.glance.is_firm_end.Goals as goal

@@ -1,6 +1,6 @@
 use Rattle.std.proofs.Common.{◌∙◌, ap, Some}
 use Rattle.level_terms.proofs.ValidLemmas.{valid_deeper}
-use Rattle.beta_fragment.proofs.MakeLemmas.{parts-there}
+use Rattle.level_terms.proofs.MakeLemmas.{parts-there}
 use Rattle.beta_fragment.proofs.VarLemmas.{var-known}
 use Rattle.beta_fragment.proofs.StayLemmas.{lam-stays, var-stays, app-long}
 use Rattle.beta_fragment.proofs.FirmLemmas.{low-other, other-level, other-app}

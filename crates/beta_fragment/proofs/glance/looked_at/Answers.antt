@@ -4,7 +4,7 @@ use Rattle.beta_fragment.proofs.StayLemmas.{var-low}
 use Rattle.beta_fragment.specs.Names.{names}
 use Rattle.ref_terms.specs.terms.Ready.{ready}
 use Rattle.level_terms.proofs.TreeLemmas.{value_below}
-use Rattle.beta_fragment.proofs.ReadLemmas.{valid-below}
+use Rattle.level_terms.proofs.ReadLemmas.{valid-below}
 use Rattle.beta_fragment.proofs.EnterLemmas.{names-places}
 use Rattle.beta_fragment.proofs.VarLemmas.{var-known}
 use Rattle.beta_fragment.proofs.FirmLemmas.{reads-value, var-unready, readiness-before}

@@ -1,7 +1,7 @@
 use Rattle.std.proofs.Common.{◌∙◌, ap, Some, refl}
 use Rattle.beta_fragment.specs.Names.{names}
 use Rattle.level_terms.specs.Reading.{read}
-use Rattle.beta_fragment.proofs.MakeLemmas.{parts-there}
+use Rattle.level_terms.proofs.MakeLemmas.{parts-there}
 use Rattle.beta_fragment.proofs.EnterLemmas.{names-places}
 use Rattle.beta_fragment.proofs.StayLemmas.{level-low}
 use Rattle.beta_fragment.proofs.FirmLemmas.{abstraction-unready, reads-level, applied-rigid, applied-open}

@@ -1,5 +1,5 @@
 use Rattle.std.proofs.Common.{◌∙◌, ap, Some, sym, subst}
-use Rattle.beta_fragment.specs.Moves.{IsVarOf, value_of}
+use Rattle.level_terms.specs.Values.{IsVarOf, value_of}
 use Rattle.beta_fragment.proofs.VarLemmas.{var-known}
 use Rattle.beta_fragment.proofs.FirmLemmas.{var-open}
 use Rattle.beta_fragment.proofs.glance.open_var.Goals as goal

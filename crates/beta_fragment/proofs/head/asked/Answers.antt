@@ -1,6 +1,6 @@
 use Rattle.std.proofs.Common.{◌∙◌, ap, subst, reverse}
 use Rattle.beta_fragment.specs.HeadForm.{AllValidAt}
-use Rattle.beta_fragment.proofs.ReadLemmas.{valid-below}
+use Rattle.level_terms.proofs.ReadLemmas.{valid-below}
 use Rattle.beta_fragment.proofs.FirmLemmas.{last-split}
 use Rattle.beta_fragment.proofs.HeadLemmas.{newest-arg}
 use Rattle.beta_fragment.proofs.head.asked.Goals as goal

@@ -3,7 +3,7 @@ use Rattle.level_terms.specs.declared.node.TermId.{TermId}
 use Rattle.beta_fragment.specs.HeadForm.{AllValidAt}
 use Rattle.beta_fragment.specs.Turn.{IsFirst, FirstReady}
 use Rattle.beta_fragment.specs.declared.glance.Readiness.TheVariants.{Ready}
-use Rattle.beta_fragment.proofs.ReadLemmas.{valid-below}
+use Rattle.level_terms.proofs.ReadLemmas.{valid-below}
 use Rattle.beta_fragment.proofs.FirmLemmas.{last-split}
 use Rattle.beta_fragment.proofs.HeadLemmas.{newest-arg}
 use Rattle.beta_fragment.proofs.FirstLemmas.{first-known}

@@ -1,6 +1,7 @@
 use Rattle.std.proofs.Common.{ℕ, ◌++◌, List, length, reverse, map, ap, ◌∙◌, subst, arith, length-append}
 use Rattle.level_terms.specs.declared.node.TermId.{TermId}
-use Rattle.beta_fragment.specs.Moves.{AreLevelsOf, value_of}
+use Rattle.beta_fragment.specs.Moves.{AreLevelsOf}
+use Rattle.level_terms.specs.Values.{value_of}
 use Rattle.beta_fragment.proofs.MoveLemmas.{assigned-before}
 use Rattle.beta_fragment.proofs.HeadLemmas.{flex-reads}
 use Rattle.beta_fragment.proofs.head.flex.Goals as goal

@@ -7,7 +7,7 @@ use Rattle.std.proofs.Common.{rules}
 use mir.Val.{SFits}
 use mir.Syntax.{w64}
 use Rattle.level_terms.proofs.GrowthLemmas.{grows-refl}
-use Rattle.beta_fragment.proofs.ReadLemmas.{valid-below}
+use Rattle.level_terms.proofs.ReadLemmas.{valid-below}
 use Rattle.beta_fragment.proofs.StayLemmas.{level-low}
 use Rattle.beta_fragment.proofs.TurnLemmas.{level-reads, leaf-reads, args-valid, app-turn-at}
 use Rattle.beta_fragment.proofs.head.one_turn.Goals as goal

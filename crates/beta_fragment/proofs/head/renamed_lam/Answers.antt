@@ -3,7 +3,7 @@ use Rattle.std.proofs.lemmas.Result.{IfOk-weaker}
 use Rattle.level_terms.specs.Valid.{IsValid}
 use Rattle.level_terms.proofs.GrowthLemmas.{grows-refl, grows-trans}
 use Rattle.beta_fragment.specs.Body.{IsLam}
-use Rattle.beta_fragment.specs.Moves.{value_of}
+use Rattle.level_terms.specs.Values.{value_of}
 use Rattle.beta_fragment.proofs.EnterLemmas.{body-valid}
 use Rattle.beta_fragment.proofs.HeadLemmas.{lam-same, lam-same_valid, lam-within, lam-renamed, take-more}
 use Rattle.beta_fragment.proofs.head.renamed_lam.Goals as goal

@@ -1,6 +1,6 @@
 use Rattle.std.proofs.Common.{length, sym, subst, [], arith}
 use Rattle.level_terms.proofs.GrowthLemmas.{grows-refl}
-use Rattle.beta_fragment.specs.Moves.{IsVarOf, value_of}
+use Rattle.level_terms.specs.Values.{IsVarOf, value_of}
 use Rattle.beta_fragment.proofs.VarLemmas.{var-known}
 use Rattle.beta_fragment.proofs.StayLemmas.{var-low}
 use Rattle.beta_fragment.proofs.FirmLemmas.{var-open}

@@ -1,6 +1,6 @@
 use Rattle.std.proofs.Common.{Some, ap, ◌∙◌}
 use Rattle.std.proofs.lemmas.Result.{IfOk-weaker}
-use Rattle.beta_fragment.proofs.ReadLemmas.{valid-below}
+use Rattle.level_terms.proofs.ReadLemmas.{valid-below}
 use Rattle.beta_fragment.proofs.StayLemmas.{lam-stays}
 use Rattle.beta_fragment.proofs.HeadLemmas.{lam-within}
 use Rattle.beta_fragment.proofs.OpenLemmas.{contract-reads, same-body}

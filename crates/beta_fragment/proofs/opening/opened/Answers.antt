@@ -4,7 +4,7 @@ use Rattle.level_terms.specs.Valid.{IsValid}
 use Rattle.level_terms.specs.Reading.{read}
 use Rattle.level_terms.proofs.GrowthLemmas.{grows-refl}
 use Rattle.level_terms.proofs.ValidLemmas.{valid_deeper}
-use Rattle.beta_fragment.specs.Moves.{value_of}
+use Rattle.level_terms.specs.Values.{value_of}
 use Rattle.beta_fragment.proofs.EnterLemmas.{body-valid}
 use Rattle.beta_fragment.proofs.OpenLemmas.{own-name, own-more, opened-move, opened-node, opened-valid}
 use Rattle.beta_fragment.proofs.opening.opened.Goals as goal

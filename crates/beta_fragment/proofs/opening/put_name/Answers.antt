@@ -6,8 +6,9 @@ use Rattle.level_terms.proofs.ValidLemmas.{growth_keeps_valid}
 use Rattle.ref_terms.specs.terms.Term.{Term}
 use Rattle.ref_terms.specs.terms.Apply.{fill}
 use Rattle.beta_fragment.specs.Names.{names}
-use Rattle.beta_fragment.specs.Moves.{put_name, Puts, value_of}
-use Rattle.beta_fragment.proofs.ReadLemmas.{valid-below, grown-reads}
+use Rattle.beta_fragment.specs.Moves.{put_name, Puts}
+use Rattle.level_terms.specs.Values.{value_of}
+use Rattle.level_terms.proofs.ReadLemmas.{valid-below, grown-reads}
 use Rattle.beta_fragment.proofs.FilledLemmas.{puts-reads}
 use Rattle.beta_fragment.proofs.opening.put_name.Goals as goal
 

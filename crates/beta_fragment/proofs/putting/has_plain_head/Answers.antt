@@ -1,5 +1,5 @@
 use Rattle.std.proofs.Common.{◌∙◌, ap, Some}
-use Rattle.beta_fragment.proofs.MakeLemmas.{parts-there}
+use Rattle.level_terms.proofs.MakeLemmas.{parts-there}
 use Rattle.beta_fragment.proofs.putting.has_plain_head.Goals as goal
 
 pub is_plain-requires : goal.is_plain-requires

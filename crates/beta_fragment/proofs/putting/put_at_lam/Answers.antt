@@ -4,7 +4,7 @@ use Rattle.beta_fragment.specs.Moves.{putting}
 use Rattle.beta_fragment.specs.Work.{Steps}
 use Rattle.beta_fragment.specs.declared.renaming.Task.{Task}
 use Rattle.beta_fragment.specs.declared.renaming.Task.TheVariants.{Visit, Lam}
-use Rattle.beta_fragment.proofs.ReadLemmas.{valid-below}
+use Rattle.level_terms.proofs.ReadLemmas.{valid-below}
 use Rattle.beta_fragment.proofs.MoveLemmas.{node-before}
 use Rattle.beta_fragment.proofs.PutWork.{can-put, put-lam-leads, put-lam-falls}
 use Rattle.beta_fragment.proofs.WorkLemmas.{steps-more}

@@ -2,11 +2,12 @@ use Rattle.std.proofs.Common.{◌++◌, ◌∷◌, [], List, length, sym, subst}
 use Rattle.level_terms.specs.Sound.{AllOlder}
 use Rattle.level_terms.specs.declared.node.TermId.{TermId}
 use Rattle.level_terms.specs.Reading.{read}
-use Rattle.beta_fragment.specs.Moves.{value_of, putting}
+use Rattle.level_terms.specs.Values.{value_of}
+use Rattle.beta_fragment.specs.Moves.{putting}
 use Rattle.beta_fragment.specs.Work.{Steps}
 use Rattle.beta_fragment.specs.declared.renaming.Task.TheVariants.{Visit}
-use Rattle.beta_fragment.proofs.ReadLemmas.{valid-below}
-use Rattle.beta_fragment.proofs.MakeLemmas.{older-append, older-grown}
+use Rattle.level_terms.proofs.ReadLemmas.{valid-below}
+use Rattle.level_terms.proofs.MakeLemmas.{older-append, older-grown}
 use Rattle.beta_fragment.proofs.MoveLemmas.{node-before}
 use Rattle.beta_fragment.proofs.PutLemmas.{put-level}
 use Rattle.beta_fragment.proofs.WorkLemmas.{steps-done}

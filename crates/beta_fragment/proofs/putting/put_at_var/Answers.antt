@@ -4,11 +4,12 @@ use Rattle.level_terms.specs.Reading.{read}
 use Rattle.level_terms.specs.declared.node.TermId.{TermId}
 use Rattle.level_terms.proofs.GrowthLemmas.{grows-refl}
 use Rattle.beta_fragment.specs.Work.{Steps}
-use Rattle.beta_fragment.specs.Moves.{value_of, putting, IsPutVar}
+use Rattle.level_terms.specs.Values.{value_of}
+use Rattle.beta_fragment.specs.Moves.{putting, IsPutVar}
 use Rattle.beta_fragment.specs.declared.renaming.Task.{Task}
 use Rattle.beta_fragment.specs.declared.renaming.Task.TheVariants.{Visit}
-use Rattle.beta_fragment.proofs.ReadLemmas.{valid-below}
-use Rattle.beta_fragment.proofs.MakeLemmas.{older-append, older-grown}
+use Rattle.level_terms.proofs.ReadLemmas.{valid-below}
+use Rattle.level_terms.proofs.MakeLemmas.{older-append, older-grown}
 use Rattle.beta_fragment.proofs.MoveLemmas.{node-before, assigned-before}
 use Rattle.beta_fragment.proofs.VarLemmas.{var-known, depth-before, value-falls}
 use Rattle.beta_fragment.proofs.PutLemmas.{put-var}

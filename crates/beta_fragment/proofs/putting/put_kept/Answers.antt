@@ -4,11 +4,12 @@ use Rattle.level_terms.specs.declared.node.TermId.{TermId}
 use Rattle.level_terms.specs.Reading.{read}
 use Rattle.level_terms.proofs.GrowthLemmas.{grows-refl}
 use Rattle.level_terms.proofs.ValidLemmas.{growth_keeps_valid, valid_deeper}
-use Rattle.beta_fragment.specs.Moves.{Value, value_of, putting}
+use Rattle.level_terms.specs.Values.{Value, value_of}
+use Rattle.beta_fragment.specs.Moves.{putting}
 use Rattle.beta_fragment.specs.Work.{Steps}
 use Rattle.beta_fragment.specs.declared.renaming.Task.TheVariants.{Visit}
-use Rattle.beta_fragment.proofs.MakeLemmas.{older-append, value-kept}
-use Rattle.beta_fragment.proofs.ReadLemmas.{valid-below}
+use Rattle.level_terms.proofs.MakeLemmas.{older-append, value-kept}
+use Rattle.level_terms.proofs.ReadLemmas.{valid-below}
 use Rattle.beta_fragment.proofs.PutLemmas.{put-kept}
 use Rattle.beta_fragment.proofs.WorkLemmas.{steps-done}
 use Rattle.beta_fragment.proofs.putting.put_kept.Goals as goal

@@ -5,9 +5,10 @@ use Rattle.level_terms.specs.Reading.{read}
 use Rattle.level_terms.specs.declared.node.TermId.{TermId}
 use Rattle.level_terms.proofs.GrowthLemmas.{grows-refl, grows-trans}
 use Rattle.level_terms.proofs.ValidLemmas.{growth_keeps_valid}
-use Rattle.beta_fragment.specs.Moves.{Value, value_of, ArePutLevels, IsPutLevel}
-use Rattle.beta_fragment.proofs.ReadLemmas.{valid-below, grown-reads}
-use Rattle.beta_fragment.proofs.MakeLemmas.{older-append, older-grown, values-kept}
+use Rattle.level_terms.specs.Values.{Value, value_of}
+use Rattle.beta_fragment.specs.Moves.{ArePutLevels, IsPutLevel}
+use Rattle.level_terms.proofs.ReadLemmas.{valid-below, grown-reads}
+use Rattle.level_terms.proofs.MakeLemmas.{older-append, older-grown, values-kept}
 use Rattle.beta_fragment.proofs.PutLemmas.{put-levels-more}
 use Rattle.beta_fragment.proofs.putting.put_levels.Goals as goal
 

@@ -2,7 +2,8 @@ use Rattle.std.proofs.Common.{◌≡◌, length, map, []}
 use Rattle.level_terms.specs.Sound.{AllOlder}
 use Rattle.level_terms.specs.Reading.{read}
 use Rattle.level_terms.specs.Growth.{Grows}
-use Rattle.beta_fragment.specs.Moves.{ArePutLevels, value_of}
+use Rattle.beta_fragment.specs.Moves.{ArePutLevels}
+use Rattle.level_terms.specs.Values.{value_of}
 use Rattle.beta_fragment.proofs.putting.put_levels.Given as goal
 
 abbrev pub invariant-loop-i : goal.invariant-loop-i

@@ -6,11 +6,12 @@ use Rattle.level_terms.proofs.GrowthLemmas.{grows-refl, grows-trans}
 use Rattle.level_terms.proofs.ValidLemmas.{growth_keeps_valid}
 use Rattle.beta_fragment.specs.declared.renaming.Task.{Task}
 use Rattle.beta_fragment.specs.declared.renaming.Task.TheVariants.{Visit, Lam, App}
-use Rattle.beta_fragment.specs.Moves.{value_of, Plan, putting}
+use Rattle.level_terms.specs.Values.{value_of}
+use Rattle.beta_fragment.specs.Moves.{Plan, putting}
 use Rattle.beta_fragment.specs.Settled.{IsTaskThere}
 use Rattle.beta_fragment.specs.Work.{Leads, IsLeading, work_size, Steps, IsReady}
-use Rattle.beta_fragment.proofs.ReadLemmas.{valid-below, grown-reads}
-use Rattle.beta_fragment.proofs.MakeLemmas.{older-last}
+use Rattle.level_terms.proofs.ReadLemmas.{valid-below, grown-reads}
+use Rattle.level_terms.proofs.MakeLemmas.{older-last}
 use Rattle.beta_fragment.proofs.SplitLemmas.{empty-list}
 use Rattle.beta_fragment.proofs.WorkLemmas.{leads-ready, last-leads, some-done, newest-task}
 use Rattle.beta_fragment.proofs.putting.put_node.Goals as goal

@@ -6,9 +6,10 @@ use Rattle.level_terms.specs.Reading.{read}
 use Rattle.level_terms.specs.declared.node.TermId.{TermId}
 use Rattle.level_terms.proofs.GrowthLemmas.{grows-trans}
 use Rattle.level_terms.proofs.ValidLemmas.{growth_keeps_valid}
-use Rattle.beta_fragment.specs.Moves.{Value, value_of, IsVarOf, IsAppOf, IsPutVar}
-use Rattle.beta_fragment.proofs.ReadLemmas.{valid-below, grown-reads}
-use Rattle.beta_fragment.proofs.MakeLemmas.{value-kept, grown-length}
+use Rattle.level_terms.specs.Values.{Value, value_of, IsVarOf, IsAppOf}
+use Rattle.beta_fragment.specs.Moves.{IsPutVar}
+use Rattle.level_terms.proofs.ReadLemmas.{valid-below, grown-reads}
+use Rattle.level_terms.proofs.MakeLemmas.{value-kept, grown-length}
 use Rattle.beta_fragment.proofs.MoveLemmas.{node-after}
 use Rattle.beta_fragment.proofs.PutLemmas.{put-var-applied}
 use Rattle.beta_fragment.proofs.putting.put_var.Goals as goal

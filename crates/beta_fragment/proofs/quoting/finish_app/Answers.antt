@@ -1,8 +1,8 @@
 use Rattle.std.proofs.Common.{◌<◌, ◌+◌, ◌++◌, ◌∷◌, [], List, map, length, take, drop, ap, sym, ◌∙◌, subst, arith}
 use Rattle.level_terms.specs.Sound.{AllOlder}
 use Rattle.level_terms.specs.declared.node.TermId.{TermId}
-use Rattle.beta_fragment.specs.Moves.{value_of, IsAppOf}
-use Rattle.beta_fragment.proofs.MakeLemmas.{older-back}
+use Rattle.level_terms.specs.Values.{value_of, IsAppOf}
+use Rattle.level_terms.proofs.MakeLemmas.{older-back}
 use Rattle.beta_fragment.proofs.SplitLemmas.{args-slice}
 use Rattle.beta_fragment.proofs.QuoteWork.{app-done, split-at, take-count}
 use Rattle.beta_fragment.proofs.quoting.finish_app.Goals as goal

@@ -1,7 +1,7 @@
 use Rattle.std.proofs.Common.{◌+◌, ap, [], length, sym, ◌∙◌, subst}
 use Rattle.level_terms.specs.Sound.{AllOlder}
 use Rattle.level_terms.proofs.GrowthLemmas.{grows-refl}
-use Rattle.beta_fragment.proofs.MakeLemmas.{older-last}
+use Rattle.level_terms.proofs.MakeLemmas.{older-last}
 use Rattle.beta_fragment.proofs.QuoteWork.{lam-done}
 use Rattle.beta_fragment.proofs.quoting.finish_lam.Goals as goal
 

@@ -1,6 +1,6 @@
 use Rattle.std.proofs.Common.{[]}
 use Rattle.level_terms.proofs.GrowthLemmas.{grows-refl}
-use Rattle.beta_fragment.specs.Moves.{value_of}
+use Rattle.level_terms.specs.Values.{value_of}
 use Rattle.std.proofs.lemmas.Result.{IfOk-weaker}
 use Rattle.beta_fragment.proofs.QuoteLemmas.{quotes-index}
 use Rattle.beta_fragment.proofs.quoting.index_node.Goals as goal

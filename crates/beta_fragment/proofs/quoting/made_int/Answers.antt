@@ -10,4 +10,4 @@ use Rattle.beta_fragment.proofs.quoting.made_int.Goals as goal
 pub returns-clause-head : goal.returns-clause-head
 returns-clause-head c =
     let at : node_at c.int.new.self.nodes c.in_ok-r.r.index ≡ Some (Int c.args.n) = at-made c.args.heap.now c.int.new.self _ c.in_ok-r.r c.in_ok-r.ensures.ok.0 c.in_ok-r.ensures.ok.1 ∙ ap (λ z. Some (Int z)) (to_z-of_z w64 c.args.n c.ranges.n) in
-    head-made c.int.new.self c.in_ok-r.r (Int c.args.n) (term.Int c.args.n) c.is_sound.ensures at (λ env. refl) (λ e. refl)
+    head-made c.int.new.self c.in_ok-r.r (Int c.args.n) (term.Int c.args.n) c.is_sound.ensures at (λ env. refl) (λ e. refl) refl

@@ -1,6 +1,6 @@
 use Rattle.std.proofs.Common.{◌≡◌, ◌-◌, suc, [], arith, subst, ◌∙◌}
 use Rattle.level_terms.proofs.GrowthLemmas.{grows-trans}
-use Rattle.beta_fragment.specs.Moves.{value_of, IsVarOf}
+use Rattle.level_terms.specs.Values.{value_of, IsVarOf}
 use Rattle.beta_fragment.proofs.VarLemmas.{lam-var}
 use Rattle.beta_fragment.proofs.renaming.bare_var.Goals as goal
 

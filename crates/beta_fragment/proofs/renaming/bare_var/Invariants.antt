@@ -2,7 +2,7 @@ use Rattle.std.proofs.Common.{◌≡◌, ◌<◌, length, []}
 use Rattle.level_terms.specs.Graph.{node_at}
 use Rattle.level_terms.specs.Sound.{IsHead}
 use Rattle.level_terms.specs.Growth.{Grows}
-use Rattle.beta_fragment.specs.Moves.{IsVarOf, value_of}
+use Rattle.level_terms.specs.Values.{IsVarOf, value_of}
 use Rattle.beta_fragment.proofs.renaming.bare_var.Given as goal
 
 abbrev pub invariant-loop-depth : goal.invariant-loop-depth

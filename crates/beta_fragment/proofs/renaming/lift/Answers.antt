@@ -1,7 +1,8 @@
 use Rattle.std.proofs.Common.{◌≡◌, ℕ, ◌≤◌, List, [], length, take, slice_index, ap, sym, ◌∙◌, subst}
 use Rattle.std.proofs.lemmas.Result.{IfOk-weaker}
 use Rattle.level_terms.proofs.GrowthLemmas.{grows-refl}
-use Rattle.beta_fragment.specs.Moves.{value_of, Moves, IsMove}
+use Rattle.level_terms.specs.Values.{value_of}
+use Rattle.beta_fragment.specs.Moves.{Moves, IsMove}
 use Rattle.beta_fragment.proofs.LiftLemmas.{names-moved, lift-move}
 use Rattle.beta_fragment.proofs.renaming.lift.Goals as goal
 

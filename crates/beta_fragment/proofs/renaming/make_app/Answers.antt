@@ -3,9 +3,9 @@ use Rattle.level_terms.specs.Sound.{AllOlder}
 use Rattle.level_terms.specs.declared.node.TermId.{TermId}
 use Rattle.level_terms.proofs.GrowthLemmas.{grows-refl}
 use Rattle.beta_fragment.specs.Work.{Steps}
-use Rattle.beta_fragment.specs.Moves.{value_of, IsAppOf}
+use Rattle.level_terms.specs.Values.{value_of, IsAppOf}
 use Rattle.beta_fragment.specs.declared.renaming.Task.TheVariants.{App}
-use Rattle.beta_fragment.proofs.MakeLemmas.{older-append, older-grown, older-front, older-back}
+use Rattle.level_terms.proofs.MakeLemmas.{older-append, older-grown, older-front, older-back}
 use Rattle.beta_fragment.proofs.SplitLemmas.{split-args, args-slice, args-count}
 use Rattle.beta_fragment.proofs.WorkLemmas.{steps-app}
 use Rattle.beta_fragment.proofs.renaming.make_app.Goals as goal

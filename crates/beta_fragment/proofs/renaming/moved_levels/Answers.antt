@@ -3,8 +3,9 @@ use Rattle.std.proofs.lemmas.List.{map-append, length-map}
 use Rattle.level_terms.specs.Sound.{AllOlder}
 use Rattle.level_terms.specs.declared.node.TermId.{TermId}
 use Rattle.level_terms.proofs.GrowthLemmas.{grows-refl, grows-trans}
-use Rattle.beta_fragment.specs.Moves.{Value, value_of, AreLevelsOf, IsLevelOf, moved_level}
-use Rattle.beta_fragment.proofs.MakeLemmas.{older-append, older-grown, values-kept}
+use Rattle.level_terms.specs.Values.{Value, value_of, IsLevelOf}
+use Rattle.beta_fragment.specs.Moves.{AreLevelsOf, moved_level}
+use Rattle.level_terms.proofs.MakeLemmas.{older-append, older-grown, values-kept}
 use Rattle.beta_fragment.proofs.VarLemmas.{levels-more}
 use Rattle.beta_fragment.proofs.renaming.moved_levels.Goals as goal
 

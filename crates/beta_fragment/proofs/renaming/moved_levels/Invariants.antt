@@ -1,7 +1,8 @@
 use Rattle.std.proofs.Common.{◌≡◌, length, map, []}
 use Rattle.level_terms.specs.Sound.{AllOlder}
 use Rattle.level_terms.specs.Growth.{Grows}
-use Rattle.beta_fragment.specs.Moves.{AreLevelsOf, value_of}
+use Rattle.beta_fragment.specs.Moves.{AreLevelsOf}
+use Rattle.level_terms.specs.Values.{value_of}
 use Rattle.beta_fragment.proofs.renaming.moved_levels.Given as goal
 
 abbrev pub invariant-loop-level : goal.invariant-loop-level

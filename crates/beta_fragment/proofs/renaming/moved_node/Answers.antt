@@ -4,11 +4,12 @@ use Rattle.level_terms.specs.declared.node.TermId.{TermId}
 use Rattle.level_terms.proofs.GrowthLemmas.{grows-refl, grows-trans}
 use Rattle.beta_fragment.specs.declared.renaming.Task.{Task}
 use Rattle.beta_fragment.specs.declared.renaming.Task.TheVariants.{Visit}
-use Rattle.beta_fragment.specs.Moves.{naming, value_of}
+use Rattle.beta_fragment.specs.Moves.{naming}
+use Rattle.level_terms.specs.Values.{value_of}
 use Rattle.beta_fragment.specs.Work.{Leads, IsLeading, work_size}
-use Rattle.beta_fragment.proofs.MakeLemmas.{older-last}
+use Rattle.level_terms.proofs.MakeLemmas.{older-last}
 use Rattle.beta_fragment.proofs.LiftLemmas.{all-stay}
-use Rattle.beta_fragment.proofs.ReadLemmas.{valid-below}
+use Rattle.level_terms.proofs.ReadLemmas.{valid-below}
 use Rattle.beta_fragment.proofs.SplitLemmas.{empty-list}
 use Rattle.beta_fragment.proofs.WorkLemmas.{leads-ready, last-leads, some-done, newest-task}
 use Rattle.beta_fragment.proofs.renaming.moved_node.Goals as goal

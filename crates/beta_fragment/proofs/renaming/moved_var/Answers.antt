@@ -4,8 +4,8 @@ use Rattle.std.proofs.lemmas.Result.{IfOk-weaker}
 use Rattle.level_terms.specs.Sound.{IsHead}
 use Rattle.level_terms.specs.declared.node.TermId.{TermId}
 use Rattle.level_terms.proofs.GrowthLemmas.{grows-trans}
-use Rattle.beta_fragment.specs.Moves.{Value, value_of, IsVarOf, IsAppOf}
-use Rattle.beta_fragment.proofs.MakeLemmas.{value-kept, grown-length}
+use Rattle.level_terms.specs.Values.{Value, value_of, IsVarOf, IsAppOf}
+use Rattle.level_terms.proofs.MakeLemmas.{value-kept, grown-length}
 use Rattle.beta_fragment.proofs.MoveLemmas.{node-after}
 use Rattle.beta_fragment.proofs.VarLemmas.{var-applied}
 use Rattle.beta_fragment.proofs.renaming.moved_var.Goals as goal

@@ -3,7 +3,7 @@ use Rattle.beta_fragment.specs.Moves.{naming}
 use Rattle.beta_fragment.specs.Work.{Steps, visits}
 use Rattle.beta_fragment.specs.declared.renaming.Task.{Task}
 use Rattle.beta_fragment.specs.declared.renaming.Task.TheVariants.{Visit, App}
-use Rattle.beta_fragment.proofs.ReadLemmas.{valid-below}
+use Rattle.level_terms.proofs.ReadLemmas.{valid-below}
 use Rattle.beta_fragment.proofs.MoveLemmas.{node-before}
 use Rattle.beta_fragment.proofs.VisitLemmas.{pushed-app, reversed-app}
 use Rattle.beta_fragment.proofs.WorkLemmas.{steps-more, app-leads, app-falls}

@@ -4,10 +4,11 @@ use Rattle.level_terms.specs.declared.node.TermId.{TermId}
 use Rattle.level_terms.proofs.GrowthLemmas.{grows-refl}
 use Rattle.level_terms.proofs.ValidLemmas.{growth_keeps_valid}
 use Rattle.beta_fragment.specs.Work.{Steps}
-use Rattle.beta_fragment.specs.Moves.{naming, Value, value_of}
+use Rattle.beta_fragment.specs.Moves.{naming}
+use Rattle.level_terms.specs.Values.{Value, value_of}
 use Rattle.beta_fragment.specs.declared.renaming.Task.TheVariants.{Visit}
-use Rattle.beta_fragment.proofs.MakeLemmas.{older-append, value-kept}
-use Rattle.beta_fragment.proofs.ReadLemmas.{valid-below}
+use Rattle.level_terms.proofs.MakeLemmas.{older-append, value-kept}
+use Rattle.level_terms.proofs.ReadLemmas.{valid-below}
 use Rattle.beta_fragment.proofs.MoveLemmas.{kept-moves}
 use Rattle.beta_fragment.proofs.WorkLemmas.{steps-done}
 use Rattle.beta_fragment.proofs.renaming.visit_kept.Goals as goal

@@ -3,10 +3,11 @@ use Rattle.level_terms.specs.Sound.{AllOlder}
 use Rattle.level_terms.specs.declared.node.TermId.{TermId}
 use Rattle.level_terms.proofs.GrowthLemmas.{grows-refl}
 use Rattle.beta_fragment.specs.Work.{Steps}
-use Rattle.beta_fragment.specs.Moves.{naming, value_of, IsLevelOf}
+use Rattle.beta_fragment.specs.Moves.{naming}
+use Rattle.level_terms.specs.Values.{value_of, IsLevelOf}
 use Rattle.beta_fragment.specs.declared.renaming.Task.TheVariants.{Visit}
-use Rattle.beta_fragment.proofs.MakeLemmas.{older-append, older-grown}
-use Rattle.beta_fragment.proofs.ReadLemmas.{valid-below}
+use Rattle.level_terms.proofs.MakeLemmas.{older-append, older-grown}
+use Rattle.level_terms.proofs.ReadLemmas.{valid-below}
 use Rattle.beta_fragment.proofs.MoveLemmas.{level-moves, node-before}
 use Rattle.beta_fragment.proofs.WorkLemmas.{steps-done}
 use Rattle.beta_fragment.proofs.renaming.visit_level.Goals as goal

@@ -7,7 +7,7 @@ use Rattle.beta_fragment.specs.HeadForm.{AllValidAt, all_read, rigid_head}
 use Rattle.beta_fragment.specs.Names.{names}
 use Rattle.beta_fragment.proofs.EnterLemmas.{names-places}
 use Rattle.beta_fragment.proofs.MoveLemmas.{app-valid}
-use Rattle.beta_fragment.proofs.ReadLemmas.{valid-below}
+use Rattle.level_terms.proofs.ReadLemmas.{valid-below}
 use Rattle.beta_fragment.proofs.rigid_form.rigid_application.Goals as goal
 
 pub view-requires : goal.view-requires

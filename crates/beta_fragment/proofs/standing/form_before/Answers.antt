@@ -5,7 +5,7 @@ use Rattle.level_terms.specs.Reading.{read}
 use Rattle.level_terms.proofs.GrowthLemmas.{grows-refl}
 use Rattle.beta_fragment.specs.Names.{names}
 use Rattle.beta_fragment.specs.HeadForm.{IsHeadForm}
-use Rattle.beta_fragment.proofs.ReadLemmas.{valid-below}
+use Rattle.level_terms.proofs.ReadLemmas.{valid-below}
 use Rattle.beta_fragment.proofs.StandLemmas.{rigid-before}
 use Rattle.beta_fragment.proofs.standing.form_before.Goals as goal
 

@@ -2,7 +2,7 @@ use Rattle.std.proofs.Common.{◌∙◌, ap, Some, subst, sym}
 use Rattle.beta_fragment.specs.Names.{names}
 use Rattle.beta_fragment.specs.Body.{IsLam}
 use Rattle.beta_fragment.proofs.EnterLemmas.{names-places}
-use Rattle.beta_fragment.proofs.ReadLemmas.{valid-below}
+use Rattle.level_terms.proofs.ReadLemmas.{valid-below}
 use Rattle.beta_fragment.proofs.standing.is_certain.Goals as goal
 
 pub view-requires : goal.view-requires

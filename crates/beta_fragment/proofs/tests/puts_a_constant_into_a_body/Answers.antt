@@ -1,4 +1,4 @@
-use Rattle.beta_fragment.proofs.ReadLemmas.{valid-below}
+use Rattle.level_terms.proofs.ReadLemmas.{valid-below}
 use Rattle.beta_fragment.proofs.tests.puts_a_constant_into_a_body.Goals as goal
 
 pub view-requires : goal.view-requires

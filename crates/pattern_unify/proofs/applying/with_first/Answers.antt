@@ -1,7 +1,7 @@
 use Rattle.std.proofs.Common.{◌∷◌, [], arith}
 use Rattle.level_terms.proofs.GrowthLemmas.{grows-trans}
-use Rattle.beta_fragment.proofs.MakeLemmas.{grown-length}
-use Rattle.beta_fragment.proofs.ReadLemmas.{valid-below}
+use Rattle.level_terms.proofs.MakeLemmas.{grown-length}
+use Rattle.level_terms.proofs.ReadLemmas.{valid-below}
 use Rattle.pattern_unify.proofs.AppliedNodes.{IsMadeWith, IsApplied, first-applied, applied-reads, applied-valid, first-made_unreached}
 use Rattle.pattern_unify.proofs.applying.with_first.Goals.{After-is_sound-3}
 use Rattle.pattern_unify.proofs.applying.with_first.Goals as goal

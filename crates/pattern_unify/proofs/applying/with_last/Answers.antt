@@ -3,7 +3,7 @@ use Rattle.level_terms.specs.declared.node.Node.TheVariants.{App}
 use Rattle.level_terms.specs.declared.node.TermId.{TermId}
 use Rattle.level_terms.specs.Sound.{IsHead, AllOlder}
 use Rattle.level_terms.proofs.GrowthLemmas.{grows-trans}
-use Rattle.beta_fragment.proofs.MakeLemmas.{head-none, parts-there}
+use Rattle.level_terms.proofs.MakeLemmas.{head-none, parts-there}
 use Rattle.beta_fragment.proofs.MoveLemmas.{node-after}
 use Rattle.pattern_unify.proofs.AppliedNodes.{IsMadeWith, args-older, last-applied, applied-reads, applied-valid, last-made_unreached}
 use Rattle.pattern_unify.proofs.applying.with_last.Goals as goal

@@ -1,7 +1,7 @@
 use Rattle.std.proofs.Common.{◌-◌, [], arith, refl, ◌∙◌}
 use Rattle.level_terms.specs.declared.node.Node.TheVariants.{Lam}
 use Rattle.level_terms.proofs.GrowthLemmas.{grows-refl, grows-trans}
-use Rattle.beta_fragment.proofs.ReadLemmas.{valid-below}
+use Rattle.level_terms.proofs.ReadLemmas.{valid-below}
 use Rattle.pattern_unify.proofs.ClosedNodes.{alike-same, alike-then, alike-lam}
 use Rattle.pattern_unify.proofs.KeepNodes.{depths-made}
 use Rattle.pattern_unify.proofs.assigning.abstracted.Goals as goal

@@ -4,7 +4,7 @@ use Rattle.level_terms.specs.Growth.{Grows}
 use Rattle.level_terms.specs.Valid.{IsValid}
 use Rattle.level_terms.proofs.GrowthLemmas.{grows-trans, grows-notes}
 use Rattle.beta_fragment.proofs.MoveLemmas.{assigned-before}
-use Rattle.beta_fragment.proofs.ReadLemmas.{valid-below}
+use Rattle.level_terms.proofs.ReadLemmas.{valid-below}
 use Rattle.pattern_unify.proofs.KeptLemmas.{others-grown}
 use Rattle.pattern_unify.proofs.ClosedNodes.{alike-binds, leaves-others, same-depth}
 use Rattle.pattern_unify.proofs.assigning.assign_over.Goals as goal

@@ -5,17 +5,13 @@ use Rattle.level_terms.proofs.GrowthLemmas.{grows-refl}
 use Rattle.ref_terms.specs.unification.Closing.{close_all}
 use Rattle.beta_fragment.specs.Names.{names as own_names}
 use Rattle.pattern_unify.specs.Bound.{IsBound}
-use Rattle.pattern_unify.proofs.UnreachedLemmas.{unread_unreached}
 use Rattle.pattern_unify.proofs.CloseNames.{first-names}
 use Rattle.pattern_unify.proofs.binding.bind.Goals as goal
 
 pub returns-in_err-stands_as_it_is-clause-grows : goal.returns-in_err-stands_as_it_is-clause-grows
 returns-in_err-stands_as_it_is-clause-grows c = grows-refl c.args.heap.now c.args.trail.now.entries
 
-pub assign_over-requires-clause-unreached : goal.assign_over-requires-clause-unreached
-assign_over-requires-clause-unreached c = unread_unreached c.args.heap.now c.args.v.index c.args.t.index own_names c.requires.absent
-
 pub returns-then-branch-clause-bound : goal.returns-then-branch-clause-bound
 returns-then-branch-clause-bound c =
-    subst (λ (ks : List ℕ). OnOk c.assign_over.result (IsBound c.args.heap.now c.assign_over.new.heap c.args.v.index (close_all ks (read c.args.heap.now c.args.t.index own_names))))
-    (first-names c.args.ns.now (c.in_ok-stands_as_it_is.ensures.first c.if-branch.true)) c.assign_over.ensures.bound
+    subst (λ (ks : List ℕ). OnOk c.assign_absent.result (IsBound c.args.heap.now c.assign_absent.new.heap c.args.v.index (close_all ks (read c.args.heap.now c.args.t.index own_names))))
+    (first-names c.args.ns.now (c.in_ok-stands_as_it_is.ensures.first c.if-branch.true)) c.assign_absent.ensures.bound

@@ -1,6 +1,6 @@
 use Rattle.std.proofs.Common.{arith}
 use Rattle.level_terms.proofs.ValidLemmas.{valid_deeper}
-use Rattle.beta_fragment.proofs.ReadLemmas.{valid-below}
+use Rattle.level_terms.proofs.ReadLemmas.{valid-below}
 use Rattle.pattern_unify.proofs.binding.stands_as_it_is.Goals as goal
 use Rattle.std.proofs.Common.{length}
 

@@ -5,7 +5,7 @@ use Rattle.ref_terms.specs.unification.Pattern.{of_name, pattern_of}
 use Rattle.ref_terms.specs.unification.Rules.{bind_to}
 use Rattle.beta_fragment.specs.Names.{names}
 use Rattle.beta_fragment.specs.HeadForm.{all_read}
-use Rattle.beta_fragment.proofs.ReadLemmas.{valid-below}
+use Rattle.level_terms.proofs.ReadLemmas.{valid-below}
 use Rattle.pattern_unify.proofs.EquationLemmas.{equation_valid-kept, equations_valid-kept}
 use Rattle.pattern_unify.proofs.KeptLemmas.{open-kept, frozen-grown, frozen-after, grows-after}
 use Rattle.pattern_unify.proofs.NamedSpines.{pattern-distinct}

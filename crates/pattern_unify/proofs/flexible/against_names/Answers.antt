@@ -6,7 +6,7 @@ use Rattle.ref_terms.specs.terms.Term.{Term}
 use Rattle.ref_terms.specs.terms.Occurs.{occurs}
 use Rattle.ref_terms.specs.unification.Pattern.{of_name}
 use Rattle.beta_fragment.specs.Names.{names}
-use Rattle.beta_fragment.proofs.ReadLemmas.{valid-below}
+use Rattle.level_terms.proofs.ReadLemmas.{valid-below}
 use Rattle.pattern_unify.specs.Bound.{NamesAmong}
 use Rattle.pattern_unify.specs.Verdicts.{verdict_of}
 use Rattle.pattern_unify.proofs.EquationLemmas.{equation_valid-kept, equations_valid-kept}

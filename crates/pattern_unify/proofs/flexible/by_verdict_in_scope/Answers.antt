@@ -4,16 +4,15 @@ use Rattle.ref_terms.specs.unification.Closing.{names_below}
 use Rattle.beta_fragment.specs.Names.{names}
 use Rattle.pattern_unify.specs.Verdicts.{verdict_of}
 use Rattle.pattern_unify.proofs.FlexibleTurns.{binds, turns-each}
-use Rattle.pattern_unify.proofs.UnreachedLemmas.{unread_unreached}
 use Rattle.pattern_unify.proofs.flexible.by_verdict_in_scope.Goals as goal
 
-pub assign_over-requires-clause-unreached : goal.assign_over-requires-clause-unreached
-assign_over-requires-clause-unreached c = unread_unreached c.args.heap.now c.args.v.index c.args.t.index names (c.requires.absent (ap verdict_of c.in-Fine.is))
+pub assign_absent-requires-clause-absent : goal.assign_absent-requires-clause-absent
+assign_absent-requires-clause-absent c = c.requires.absent (ap verdict_of c.in-Fine.is)
 
-pub returns-in_ok-assign_over-in-Fine-clause-turn : goal.returns-in_ok-assign_over-in-Fine-clause-turn
-returns-in_ok-assign_over-in-Fine-clause-turn c =
-    binds c.args.heap.now c.assign_over.new.heap c.args.trail.now.entries c.assign_over.new.trail.entries c.args.v.index (names_below c.args.e.depth) (read c.args.heap.now c.args.t.index names) c.args.work.now.items c.args.e (verdict_of c.args.verdict)
-    c.is_sound.ensures c.assign_over.ensures.grows (ap verdict_of c.in-Fine.is) c.in_ok-assign_over-in-Fine.ensures.bound c.assign_over.ensures.variables c.requires.valid
+pub returns-in_ok-assign_absent-in-Fine-clause-turn : goal.returns-in_ok-assign_absent-in-Fine-clause-turn
+returns-in_ok-assign_absent-in-Fine-clause-turn c =
+    binds c.args.heap.now c.assign_absent.new.heap c.args.trail.now.entries c.assign_absent.new.trail.entries c.args.v.index (names_below c.args.e.depth) (read c.args.heap.now c.args.t.index names) c.args.work.now.items c.args.e (verdict_of c.args.verdict)
+    c.is_sound.ensures c.assign_absent.ensures.grows (ap verdict_of c.in-Fine.is) c.in_ok-assign_absent-in-Fine.ensures.bound c.assign_absent.ensures.variables c.requires.valid
 
 pub returns-in_default-clause-turn : goal.returns-in_default-clause-turn
 returns-in_default-clause-turn c =

@@ -6,7 +6,7 @@ use Rattle.level_terms.proofs.ValidLemmas.{growth_keeps_valid}
 use Rattle.ref_terms.specs.unification.Pattern.{of_name, pattern_of}
 use Rattle.beta_fragment.specs.HeadForm.{all_read}
 use Rattle.beta_fragment.specs.Names.{names}
-use Rattle.beta_fragment.proofs.ReadLemmas.{valid-below, grown-reads}
+use Rattle.level_terms.proofs.ReadLemmas.{valid-below, grown-reads}
 use Rattle.pattern_unify.proofs.SpineNameLemmas.{arg-valid, pattern-more, pattern-front, pattern-end}
 use Rattle.pattern_unify.proofs.spine.pattern_names.Goals as goal
 

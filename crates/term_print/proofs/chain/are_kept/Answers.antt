@@ -1,6 +1,6 @@
 use Rattle.std.proofs.Common.{[]}
 use Rattle.level_terms.proofs.GrowthLemmas.{grows-refl}
-use Rattle.beta_fragment.proofs.ReadLemmas.{valid-below}
+use Rattle.level_terms.proofs.ReadLemmas.{valid-below}
 use Rattle.term_print.proofs.ChainLemmas.{below-made, body-kept}
 use Rattle.term_print.proofs.WrittenLemmas.{if-ok_two}
 use Rattle.term_print.proofs.chain.are_kept.Goals as goal

@@ -4,7 +4,7 @@ use Rattle.level_terms.proofs.GrowthLemmas.{grows-refl, grows-trans}
 use Rattle.level_terms.proofs.ValidLemmas.{growth_keeps_valid}
 use Rattle.beta_fragment.specs.Names.{names}
 use Rattle.beta_fragment.specs.HeadForm.{all_read}
-use Rattle.beta_fragment.proofs.ReadLemmas.{valid-below}
+use Rattle.level_terms.proofs.ReadLemmas.{valid-below}
 use Rattle.term_print.specs.Pieces.{page}
 use Rattle.term_print.specs.Sequents.{more_lines}
 use Rattle.term_print.proofs.SequentLemmas.{valid-at, line-next, line-stops, one-read-grown}

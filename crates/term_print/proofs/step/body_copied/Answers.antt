@@ -2,7 +2,7 @@ use Rattle.std.proofs.Common.{◌+◌, [], sym, subst, arith}
 use Rattle.level_terms.proofs.GrowthLemmas.{grows-trans}
 use Rattle.level_terms.proofs.ValidLemmas.{growth_keeps_valid, valid_deeper}
 use Rattle.beta_fragment.specs.Body.{IsLam}
-use Rattle.beta_fragment.proofs.ReadLemmas.{valid-below}
+use Rattle.level_terms.proofs.ReadLemmas.{valid-below}
 use Rattle.term_print.proofs.WrittenLemmas.{if-ok}
 use Rattle.term_print.proofs.LookLemmas.{node-stays, copied-reads, level-reads, level-valid}
 use Rattle.term_print.proofs.step.body_copied.Goals as goal

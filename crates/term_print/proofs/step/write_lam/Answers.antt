@@ -3,7 +3,7 @@ use Rattle.level_terms.specs.Reading.{read}
 use Rattle.level_terms.proofs.GrowthLemmas.{grows-refl}
 use Rattle.beta_fragment.specs.Names.{names}
 use Rattle.level_terms.proofs.ValidLemmas.{growth_keeps_valid}
-use Rattle.beta_fragment.proofs.ReadLemmas.{valid-below}
+use Rattle.level_terms.proofs.ReadLemmas.{valid-below}
 use Rattle.term_print.proofs.ChainLemmas.{body-kept-grown}
 use Rattle.term_print.proofs.StepLemmas.{lam-printed}
 use Rattle.term_print.proofs.WrittenLemmas.{on-ok}

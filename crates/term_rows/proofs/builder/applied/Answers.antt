@@ -9,8 +9,8 @@ use Rattle.level_terms.specs.Valid.{IsValid}
 use Rattle.level_terms.proofs.GrowthLemmas.{grows-refl}
 use Rattle.level_terms.proofs.ValidLemmas.{valid_deeper}
 use Rattle.beta_fragment.specs.HeadForm.{AllValidAt}
-use Rattle.beta_fragment.proofs.MakeLemmas.{head-other}
-use Rattle.beta_fragment.proofs.ReadLemmas.{valid-below}
+use Rattle.level_terms.proofs.MakeLemmas.{head-other}
+use Rattle.level_terms.proofs.ReadLemmas.{valid-below}
 use Rattle.term_rows.specs.declared.builder.Item.{Item}
 use Rattle.term_rows.proofs.BuildLemmas.{all-valid, all-older, applied-valid}
 use Rattle.term_rows.proofs.builder.applied.Goals as goal

@@ -1,7 +1,7 @@
 use Rattle.std.proofs.Common.{[]}
 use Rattle.level_terms.proofs.GrowthLemmas.{grows-refl}
 use Rattle.level_terms.proofs.ValidLemmas.{valid_deeper}
-use Rattle.beta_fragment.proofs.ReadLemmas.{valid-below}
+use Rattle.level_terms.proofs.ReadLemmas.{valid-below}
 use Rattle.term_rows.proofs.builder.contracted.Goals as goal
 
 pub returns-then-lam-depth-clause-grows : goal.returns-then-lam-depth-clause-grows

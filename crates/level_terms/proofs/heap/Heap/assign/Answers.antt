@@ -40,6 +40,7 @@ invariant_of-self c =
         few = c.self.invariant.consistent.few;
         once = subst AllOnce (sym newest) (ap (λ g. value_in g.assigned c.args.v.index) c.self.view_is ∙ c.requires.free, c.self.invariant.consistent.once);
       };
+      marked = record { many = c.self.invariant.marked.many; bits = c.self.invariant.marked.bits };
       sound = sound-assigned (graph_of c.self.inside) _ c.args.v.index c.args.t.index
           (λ i. record { nodes = reverse c.self.inside.nodes.items; depths = depths i; assigned = newest i })
           c.self.invariant.sound

@@ -34,6 +34,7 @@ invariant_of-self-2 c =
         few = omega (arith, c.if-index.false, c.len-index.ensures, c.push_reserved.ensures.len, c.in_ok-reserve.ensures.len);
         once = subst (λ bs. AllOnce (assigned_all bs)) (sym c.in_ok-reserve-2.ensures.items) c.self.invariant.consistent.once;
       };
+      marked = record { many = c.self.invariant.marked.many; bits = c.self.invariant.marked.bits };
       sound = sound-variable (graph_of c.self.inside) _ c.args.depth (λ i. record { nodes = reverse c.self.inside.nodes.items; depths = depths i; assigned = assigned i }) c.self.invariant.sound;
     }
 

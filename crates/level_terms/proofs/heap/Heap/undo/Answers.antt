@@ -1,7 +1,10 @@
-use Rattle.std.proofs.Common.{◌≡◌, ◌≤◌, ◌-◌, ◌∷◌, [], suc, ℕ, length, reverse, map, drop, take, cond, Some, None, refl, sym, ap, ap₂, ◌∙◌, subst, arith, eq-eqb, vec_len, sum_by, length-append}
+use Rattle.std.proofs.Common.{◌≡◌, ◌≤◌, ◌<◌, ◌-◌, ◌∷◌, [], suc, ℕ, Bool, List, slice_get, length, reverse, map, drop, take, cond, Some, None, refl, sym, ap, ap₂, ◌∙◌, subst, arith, eq-eqb, vec_len, sum_by, length-append}
 use Rattle.std.proofs.lemmas.List.{length-map, length-reverse, take-map}
 use Rattle.std.proofs.lemmas.List.Sums.{sum_by-set}
+use Rattle.level_terms.specs.declared.node.Node.{Node}
 use Rattle.level_terms.specs.Graph.{value_in}
+use Rattle.level_terms.specs.GroundNormal.{ground_normal}
+use Rattle.level_terms.proofs.MarkLemmas.{bits-take}
 use Rattle.level_terms.specs.Sound.{IsSound, AllAssigned}
 use Rattle.level_terms.specs.Growth.{changes_of, change_of}
 use Rattle.level_terms.specs.HeapView.{cell_value, free_count, assigned_by, assigned_all, AllOnce}
@@ -45,6 +48,7 @@ loop-self-preserved-in-Some c =
         few = c.loop-self.invariant.consistent.few;
         once = once.1;
       };
+      marked = record { many = c.loop-self.invariant.marked.many; bits = c.loop-self.invariant.marked.bits };
       nodes = c.loop-self.invariant.nodes;
       depths = depths-set cells v (record { depth = c.index_mut.result.now.depth; value = None }) c.index_mut.result.now within (ap (λ x. x.depth) c.index_mut.ensures.value) ∙ c.loop-self.invariant.depths;
       assigned =
@@ -91,6 +95,15 @@ invariant_of-self c =
         few = omega (arith, c.loop-self.invariant.consistent.few, c.truncate-2.ensures.len);
         once = c.loop-self.invariant.consistent.once;
       };
+      marked =
+          let few : c.args.m.nodes ≤ length c.loop-self.self-inside.nodes.items = omega (arith, c.requires.within.nodes, ap length c.loop-self.invariant.nodes, length-reverse c.loop-self.self-inside.nodes.items) in
+          record {
+            many = omega (arith, c.loop-self.invariant.marked.many, c.truncate.ensures.len, c.truncate-3.ensures.len);
+            bits = λ t h.
+                ap (λ (bs : List Bool). slice_get bs t) c.truncate-3.ensures.items
+                ∙ bits-take c.loop-self.self-inside.nodes.items c.loop-self.self-inside.fixed.items c.args.m.nodes few c.loop-self.invariant.marked.bits t (subst (λ (ns : List Node). t < length ns) c.truncate.ensures.items h)
+                ∙ ap (λ (ns : List Node). Some (ground_normal (reverse ns) t)) (sym c.truncate.ensures.items);
+          };
       sound = subst IsSound (sym (returns-clause-heap c)) (sound-undone c.args.m c.args.self.now (subst IsSound c.self.view_is c.self.invariant.sound) c.requires.within c.requires.closed);
     }
 

@@ -1,4 +1,4 @@
-use Rattle.beta_fragment.proofs.ReadLemmas.{valid-below}
+use Rattle.level_terms.proofs.ReadLemmas.{valid-below}
 use Rattle.term_rows.specs.declared.builder.Item.{Item}
 use Rattle.term_rows.proofs.BuildLemmas.{items-kept, stays-unassigned, abstracted-valid}
 use Rattle.term_rows.proofs.builder.Builder.abstraction.Goals as goal
