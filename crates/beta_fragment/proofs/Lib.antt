@@ -38,4 +38,3 @@ pub mod OpenHeadLemmas
 pub mod EvaluationLemmas
 pub mod ArgumentLemmas
 pub mod SpineLemmas
-pub mod SampleLemmas

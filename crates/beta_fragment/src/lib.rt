@@ -34,6 +34,3 @@ pub use instantiating::instantiate;
 pub use opening::contract;
 pub use rebuilding::rebuild;
 pub use renaming::lift;
-
-#[cfg(test)]
-mod tests;

@@ -14,8 +14,6 @@ mod heap;
 pub mod laws;
 mod making;
 mod node;
-#[cfg(test)]
-mod tests;
 
 pub use heap::Heap;
 pub use making::{applied, made_app, made_lam, made_level, made_var};

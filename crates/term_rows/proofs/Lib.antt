@@ -1,2 +1,3 @@
 pub mod BuildLemmas
 pub mod RowLemmas
+pub mod SampleLemmas

@@ -1,6 +1,6 @@
 use Rattle.std.proofs.Common.{[]}
 use Rattle.level_terms.proofs.GrowthLemmas.{grows-refl, grows-trans}
-use Rattle.level_terms.proofs.tests.grow.Goals as goal
+use Rattle.term_rows.proofs.heaping.grow.Goals as goal
 
 pub loop-n-init : goal.loop-n-init
 loop-n-init c = grows-refl c.args.heap.now []

@@ -1,16 +1,16 @@
-// Each public call with ample memory, and a heap of two million nodes. Expected values are by hand.
+//! Each public call with ample memory, and a heap of two million nodes. Expected values are by hand.
 ghost use Rattle.std.specs.Prelude.{◌≡◌, [], ◌<◌, ◌≤◌, ◌+◌, length, None, OnOk};
 ghost use Rattle.level_terms.specs.Graph.{value_in};
 ghost use Rattle.level_terms.specs.Growth.{Grows};
 ghost use Rattle.level_terms.specs.Undo.{IsTrailOf};
 
-use crate::{Change, Heap, HeapMark, Node, TermId, TermIds, VarId};
+use level_terms::{Change, Heap, HeapMark, Node, TermId, TermIds, VarId};
 use ref_terms::Sym;
 use std::alloc::AllocError;
 use std::test::Fail;
 use trail::Trail;
 
-// Whether a node is what is expected.
+/// Whether a node is what is expected.
 fn is_seen(node: &Node, want: &Seen) -> bool {
     match (node, want) {
         (Node::Con(c), Seen::Con(d)) => c == d,
@@ -30,7 +30,7 @@ fn is_seen(node: &Node, want: &Seen) -> bool {
     }
 }
 
-// A node as it is expected: an application by its head, its first and last argument, and their number.
+/// A node as it is expected: an application by its head, its first and last argument, and their number.
 #[derive(Clone, Copy)]
 enum Seen {
     Con(Sym),
@@ -84,7 +84,7 @@ fn lists_keep_their_order(rt: HostRuntime) -> Result<(), Fail> {
     Ok(())
 }
 
-// Within an assignment of another variable: assigns `v`, looks at it and takes that back.
+/// Within an assignment of another variable: assigns `v`, looks at it and takes that back.
 fn binds_within(heap: &mut Heap, trail: &mut Trail<Change>, v: VarId) -> Result<bool, AllocError>
     requires variable { v.index < length heap.old.depths }
     requires free { value_in heap.old.assigned v.index ≡ None }
@@ -139,7 +139,7 @@ fn undoes_nested_marks(rt: HostRuntime) -> Result<(), Fail> {
     Ok(())
 }
 
-// Adds three nodes and a variable, so many times.
+/// Adds three nodes and a variable, so many times.
 fn grow(heap: &mut Heap, times: u32) -> Result<(), AllocError>
     ensures { Grows heap.old heap.new [] [] }
 {

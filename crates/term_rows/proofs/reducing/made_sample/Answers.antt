@@ -1,7 +1,7 @@
 use Rattle.std.proofs.Common.{ap}
 use Rattle.level_terms.specs.Graph.{Graph}
-use Rattle.beta_fragment.proofs.SampleLemmas.{IsSample, sample-made, constant-there, name-there, lam-there, redex-there}
-use Rattle.beta_fragment.proofs.tests.made_sample.Goals as goal
+use Rattle.term_rows.proofs.SampleLemmas.{IsSample, sample-made, constant-there, name-there, lam-there, redex-there}
+use Rattle.term_rows.proofs.reducing.made_sample.Goals as goal
 
 made : (c : goal.In_ok-redex) → IsSample c.app-2.new.self.nodes c.in_ok-constant.constant c.in_ok-name.name c.in_ok-lam.lam c.in_ok-redex.redex
 made c =

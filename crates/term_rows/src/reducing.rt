@@ -1,11 +1,11 @@
-// Calls with ample memory, on the abstraction `x\ f x x`, its application to a constant `a`, and a
-// name. Printed forms of many terms are tried where terms are printed. Expected values are by hand.
+//! Calls with ample memory, on the abstraction `x\ f x x`, its application to a constant `a`, and a
+//! name. Printed forms of many terms are tried where terms are printed. Expected values are by hand.
 ghost use Rattle.std.specs.Prelude.{◌≡◌, [], ◌∷◌, IfOk};
 ghost use Rattle.level_terms.specs.Graph.{node_at};
 ghost use Rattle.level_terms.specs.Valid.{IsValid};
 ghost use Rattle.beta_fragment.specs.Body.{IsLam, IsLamAt};
 
-use crate::{Names, RigidHead, Whnf, contract, enter, lift, same_term, whnf};
+use beta_fragment::{Names, RigidHead, Whnf, contract, enter, lift, same_term, whnf};
 use level_terms::{Heap, Node, TermId};
 use ref_terms::Sym;
 use std::alloc::{AllocError, Global};
@@ -78,7 +78,7 @@ fn enters_without_a_node(rt: HostRuntime) -> Result<(), Fail> {
     Ok(())
 }
 
-// Whether the node is an application to this node twice.
+/// Whether the node is an application to this node twice.
 fn is_twice(node: &Node, arg: TermId) -> bool {
     match node {
         Node::App { args, .. } => args.as_slice() == [arg, arg].as_slice(),
@@ -111,7 +111,7 @@ fn tells_different_terms(rt: HostRuntime) -> Result<(), Fail> {
     Ok(())
 }
 
-// The list of one name.
+/// The list of one name.
 fn one_name(alloc: Global, name: usize) -> Result<Names, AllocError>
     ensures { IfOk result (λ names. names ≡ name ∷ []) }
 {
