@@ -1,14 +1,8 @@
 -- The reserved names, by their numbers in the table of symbols.
 use Rattle.std.specs.Prelude.{ℕ, List, [], ◌∷◌, Option, slice_get}
 use Rattle.ref_terms.specs.terms.Term.{Term, At, App, Con}
-
--- one for each reserved name
-pub data Reserved : Type 0 where
-  True_word Fail_word Cut_word And_word Or_word Implies_word If_word Pi_word Sigma_word : Reserved
-  Equal_word Same_word Var_word Name_word Is_word Less_word Print_word Beta_word Suspend_word : Reserved
-  Nil_word Cons_word Plus_word Minus_word Times_word : Reserved
-  -- words of tests, which are free elsewhere
-  Nonvar_word Distinct_word : Reserved
+pub use Rattle.ref_terms.specs.declared.reserved.Reserved.{Reserved}
+pub use Rattle.ref_terms.specs.declared.reserved.Reserved.TheVariants.{True as True_word, Fail as Fail_word, Cut as Cut_word, And as And_word, Or as Or_word, Implies as Implies_word, If as If_word, Pi as Pi_word, Sigma as Sigma_word, Equal as Equal_word, Same as Same_word, Var as Var_word, Name as Name_word, Is as Is_word, Less as Less_word, Print as Print_word, Beta as Beta_word, Suspend as Suspend_word, Nil as Nil_word, Cons as Cons_word, Plus as Plus_word, Minus as Minus_word, Times as Times_word, Nonvar as Nonvar_word, Distinct as Distinct_word}
 
 -- in the order of their numbers
 abbrev pub words : List Reserved
