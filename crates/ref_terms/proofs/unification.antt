@@ -11,6 +11,7 @@ pub mod RealClash
 pub mod RealRuns
 pub mod RenamedLemmas
 pub mod RunRenamed
+pub mod Sequence
 pub mod SideLemmas
 pub mod Steps
 pub mod ValueLemmas

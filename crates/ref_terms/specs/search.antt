@@ -23,6 +23,7 @@ pub mod Resolve
 pub mod RuleInstance
 pub mod RuleMatch
 pub mod RuleTest
+pub mod Sequence
 pub mod State
 pub mod Strip
 pub mod Touched

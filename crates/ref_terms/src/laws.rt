@@ -3,7 +3,7 @@
 ghost use Rattle.ref_terms.specs.laws.TermLaws.{FillTwiceIsOnce, FillAppliesTheSame, FillAbstractsTheSame, InstanceApplies, InstanceOfAllApplies, ApplicationBuilds, AbstractionBuilds, FillBuilds, BuiltStays, AbsentVariable, OpeningIsReplacing, ApplicationOpens, AbstractionUndoesApplication, ApplicationUndoesAbstraction};
 ghost use Rattle.ref_terms.specs.laws.ReadyLaws.{NameIsReady, BoundIndexIsReady, ReadyIsRigid, ReadyAfterInstance, ReadyAfterOpening, UnreadyAfterOpening};
 ghost use Rattle.ref_terms.specs.laws.TextLaws.{TextApplicationBuilds, TextAbstractionBuilds, RebuiltTextApplies};
-ghost use Rattle.ref_terms.specs.laws.UnifyLaws.{HasOneAnswer, UnificationEnds, UnifyIsReached, UnifyIsTheOnlyAnswer, StepKeepsAnswer, LastStepAnswers, StepsFall, LastStepIsOne};
+ghost use Rattle.ref_terms.specs.laws.UnifyLaws.{HasOneAnswer, UnificationEnds, UnifyIsReached, UnifyIsTheOnlyAnswer, StepKeepsAnswer, LastStepAnswers, StepsFall, LastStepIsOne, UnifiesOneByOne};
 ghost use Rattle.ref_terms.specs.laws.SearchLaws.{RenamedProblemHasRenamedAnswer, RenamingOfUsedVariables, RenamedStatesMoveRenamed, AlikeStatesMoveAlike, AlikeEventsShowTheSame, AlikeStatesShowTheSame, StrippedStateMovesStripped, AlikeStatesStripAlike, AlikeOnceStrippedMoveAlike, AlikeOnceStrippedShowTheSame, FirstStateIsCounted, CountedStateMovesCounted};
 ghost use Rattle.ref_terms.specs.laws.TouchLaws.{FirstTouchedIsFirst, TouchedAfterBindings, TouchedAfterRenaming, TouchedAfterAdding, TouchedAfterLeaving, TouchedAfterFiring, TouchedAfterDropping, TouchedAfterRule, TouchedAfterWaking, TouchedRenamed, RefusedAfterFiring, FiredIsRefused, RestAfterFiring, WatchedSleepsOn, PairsShare};
 ghost use Rattle.ref_terms.specs.unification.MostGeneral.{MostGeneral};
@@ -95,6 +95,12 @@ pub fn law_unify_follows_steps()
 pub fn law_steps_fall()
     ensures goes { StepsFall }
     ensures ends { LastStepIsOne }
+{}
+
+/// A list of equations is unified one by one: the first, and then the others under its bindings. A clash
+/// or a fault of the first is that of the list.
+pub fn law_one_by_one()
+    ensures { UnifiesOneByOne }
 {}
 
 /// Where `unify` solves a problem, its bindings are a most general unifier of it.

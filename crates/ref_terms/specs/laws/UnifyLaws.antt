@@ -1,9 +1,10 @@
 -- What the laws on the answers of unification say.
-use Rattle.std.specs.Prelude.{◌≡◌, ℕ, suc}
-use Rattle.ref_terms.specs.unification.Problem.{Problem, Answer, Goes, Ends}
+use Rattle.std.specs.Prelude.{◌≡◌, ℕ, suc, List, [], ◌∷◌}
+use Rattle.ref_terms.specs.unification.Problem.{Equation, Binding, Problem, Answer, Goes, Ends}
 use Rattle.ref_terms.specs.unification.Rules.{step}
 use Rattle.ref_terms.specs.unification.Run.{Unifies}
 use Rattle.ref_terms.specs.unification.Unification.{unify, steps_of}
+use Rattle.ref_terms.specs.search.Sequence.{continued}
 
 -- a run has one answer
 abbrev pub HasOneAnswer : Type 0
@@ -36,3 +37,8 @@ StepsFall = (m : ℕ) (p q : Problem) → step m p ≡ Goes q → steps_of m p �
 -- the last step is one step
 abbrev pub LastStepIsOne : Type 0
 LastStepIsOne = (m : ℕ) (p : Problem) (a : Answer) → step m p ≡ Ends a → steps_of m p ≡ 1
+
+-- a list of equations is solved by its first one, and then by the others under the bindings that it made
+abbrev pub UnifiesOneByOne : Type 0
+UnifiesOneByOne = (m n : ℕ) (e : Equation) (es : List Equation) (bs : List Binding)
+    → unify m (record { next_var = n; equations = e ∷ es; bindings = bs }) ≡ continued es bs m (unify m (record { next_var = n; equations = e ∷ []; bindings = [] }))
