@@ -43,6 +43,7 @@ pub mod PrintUnderName
 pub mod PrunedArgument
 pub mod RaisedVariables
 pub mod Readings
+pub mod RebuiltHead
 pub mod ReducedByValue
 pub mod SameOfVariables
 pub mod SecondInputSelects
