@@ -78,6 +78,13 @@ fn runs_write_the_rows(rt: HostRuntime) -> Result<(), Fail> {
         // What is left of an abstraction by contraction is built.
         ("(x\\ p x) a.", "p a", "answer 1\nno more\n", Status::Done),
         ("p (x\\ x).", "p", "refused: a: not yet\n", Status::Refused),
+        // The static rules look at a text as it is read, and not at `p (f (X b))`.
+        (
+            "p ((x\\ f (X x)) b).",
+            "p Y",
+            "refused: a: not yet\n",
+            Status::Refused,
+        ),
         ("p _.", "p", "refused: a: not yet\n", Status::Refused),
         ("p true.", "p", "refused: a: not yet\n", Status::Refused),
         ("p X.", "p", "refused: a: not yet\n", Status::Refused),

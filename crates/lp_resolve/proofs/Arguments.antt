@@ -5,8 +5,7 @@ use Rattle.std.proofs.lemmas.List.{map-append, reverse-append}
 use Rattle.ref_terms.specs.declared.tree.Tree.{Tree}
 use Rattle.lp_resolve.proofs.Shapes.{fit-last}
 use Rattle.ref_terms.specs.terms.Term.{Term, Lam, At, App}
-use Rattle.ref_terms.specs.terms.Apply.{apply}
-use Rattle.ref_terms.specs.unification.Spine.{apply_all}
+use Rattle.ref_terms.specs.terms.Text.{text_apply, text_apply_all}
 use Rattle.lp_resolve.specs.Trees.{with_arguments, Shape, shape, are_none, all_fit}
 use Rattle.lp_resolve.specs.Build.{bound_index}
 

@@ -5,7 +5,7 @@ use Rattle.std.specs.Option.{option_map}
 use Rattle.ref_terms.specs.terms.Term.{Term, Head, Con, Int, Str, Name, Bound, Var, Lam, At, App}
 use Rattle.ref_terms.specs.terms.Index.{sub, sub_head, first, under, shift, next}
 use Rattle.ref_terms.specs.terms.Eta.{partial, partial_head, up_partial, both, previous, on_index, lower, eta}
-use Rattle.ref_terms.specs.terms.Apply.{apply}
+use Rattle.ref_terms.specs.terms.Text.{text_apply}
 use Rattle.lp_resolve.specs.Replacing.{replaced, replacing}
 use Rattle.lp_resolve.specs.Build.{bound_index}
 

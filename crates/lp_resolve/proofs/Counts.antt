@@ -5,9 +5,7 @@ use Rattle.std.specs.Option.{option_map}
 use Rattle.ref_terms.specs.terms.Term.{Head, Term, Con, Int, Str, Name, Bound, Var, Lam, At, App}
 use Rattle.ref_terms.specs.terms.Index.{ren, ren_head, up, next, shift, sub, sub_head, under, first}
 use Rattle.ref_terms.specs.terms.Eta.{partial, partial_head, up_partial, both, previous, lower, on_index, eta, lam, lam_of}
-use Rattle.ref_terms.specs.terms.Ready.{ready}
-use Rattle.ref_terms.specs.terms.Apply.{apply}
-use Rattle.ref_terms.specs.unification.Spine.{apply_all}
+use Rattle.ref_terms.specs.terms.Text.{bare, text_apply, text_apply_all}
 
 -- how many places of variables there are
 abbrev pub count_head : Head → ℕ
@@ -54,35 +52,34 @@ count-sub s h (At (Name n)) = refl
 count-sub s h (At (Bound i)) = h i
 count-sub s h (At (Var v)) = refl
 
--- a ready term has none
-count-ready : (a : Term) → ready a ≡ true → count a ≡ 0
-unfolding ready
-count-ready (Lam b) e = absurd (let bad = e in cc)
-count-ready (App f a) e = absurd (let bad = e in cc)
-count-ready (At (Name n)) e = refl
-count-ready (At (Bound i)) e = refl
-count-ready (At (Con c)) e = absurd (let bad = e in cc)
-count-ready (At (Int z)) e = absurd (let bad = e in cc)
-count-ready (At (Str s)) e = absurd (let bad = e in cc)
-count-ready (At (Var v)) e = absurd (let bad = e in cc)
+-- a bare term has none
+count-bare : (a : Term) → bare a ≡ true → count a ≡ 0
+count-bare (Lam b) e = absurd (let bad = e in cc)
+count-bare (App f a) e = absurd (let bad = e in cc)
+count-bare (At (Name n)) e = refl
+count-bare (At (Bound i)) e = refl
+count-bare (At (Con c)) e = absurd (let bad = e in cc)
+count-bare (At (Int z)) e = absurd (let bad = e in cc)
+count-bare (At (Str s)) e = absurd (let bad = e in cc)
+count-bare (At (Var v)) e = absurd (let bad = e in cc)
 
 -- an application
-pub count-apply : (f a : Term) → count (apply f a) ≡ count f + count a
+pub count-apply : (f a : Term) → count (text_apply f a) ≡ count f + count a
 count-apply (At h) a = refl
 count-apply (App f b) a = refl
-count-apply (Lam b) a = at (ready a) refl where
+count-apply (Lam b) a = at (bare a) refl where
   opened : count a ≡ 0 → (i : ℕ) → count (first a i) ≡ 0
   opened e zero = e
   opened e (suc i) = refl
 
-  at : (r : Bool) → ready a ≡ r → count (cond r (sub (first a) b) (App (Lam b) a)) ≡ count b + count a
-  at true e = omega (arith, count-sub (first a) (opened (count-ready a e)) b, count-ready a e)
+  at : (r : Bool) → bare a ≡ r → count (cond r (sub (first a) b) (App (Lam b) a)) ≡ count b + count a
+  at true e = omega (arith, count-sub (first a) (opened (count-bare a e)) b, count-bare a e)
   at false e = refl
 
 -- an application to terms
-pub count-apply_all : (f : Term) (ts : List Term) → count (apply_all f ts) ≡ count f + count_all ts
+pub count-apply_all : (f : Term) (ts : List Term) → count (text_apply_all f ts) ≡ count f + count_all ts
 count-apply_all f [] = omega arith
-count-apply_all f (t ∷ ts) = omega (arith, count-apply_all (apply f t) ts, count-apply f t)
+count-apply_all f (t ∷ ts) = omega (arith, count-apply_all (text_apply f t) ts, count-apply f t)
 
 -- bound names renamed, where each has an image
 count-partial : (p : ℕ → Option ℕ) (t : Term) → IfSome (partial p t) (λ u. count u ≡ count t)

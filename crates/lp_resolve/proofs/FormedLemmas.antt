@@ -3,7 +3,7 @@ use Rattle.std.proofs.Common.{◌≡◌, ◌∙◌, ℕ, ◌+◌, ◌<◌, ◌�
 use Rattle.std.specs.List.{list_all}
 use Rattle.ref_terms.specs.terms.Term as term
 use Rattle.ref_terms.specs.terms.Term.{Term}
-use Rattle.ref_terms.specs.terms.Built.{IsBuilt}
+use Rattle.ref_terms.specs.terms.Text.{IsTextBuilt}
 use Rattle.ref_terms.specs.declared.tree.Tree.{Tree, out-Tree, roll-Tree, roll-out-Tree}
 use Rattle.ref_terms.specs.declared.tree.Tree.TheVariants.{Ap, rolls-Ap}
 use Rattle.ref_terms.specs.declared.tree.Head.{Head}
@@ -57,7 +57,7 @@ is_parted t = is_parted-layer t (is_implication t) (out-Tree t) (roll-out-Tree t
 pub formed-two : (n d : ℕ) (head : Head) (a b : Tree) → IsFormed n d (Ap head (a ∷ b ∷ [])) → IsFormed n d a × IsFormed n d b
 formed-two n d head a b f =
     let fits = subst (λ s. IsTrue s.fits) (shape-ap head (a ∷ b ∷ [])) f.fits in
-    let built = subst IsBuilt (term-ap head (a ∷ b ∷ [])) f.built in
+    let built = subst IsTextBuilt (term-ap head (a ∷ b ∷ [])) f.built in
     let within = subst (IsWithin n d) (term-ap head (a ∷ b ∷ [])) f.within in
     (record { fits = grind arith; built = built.0.1; within = within.0.1 }, record { fits = grind arith; built = built.1; within = within.1 })
 

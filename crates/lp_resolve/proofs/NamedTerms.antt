@@ -5,9 +5,7 @@ use Rattle.std.specs.Option.{option_map}
 use Rattle.ref_terms.specs.terms.Term.{Head, Term, Con, Int, Str, Name, Bound, Var, Lam, At, App}
 use Rattle.ref_terms.specs.terms.Index.{ren, ren_head, up, next, shift, sub, sub_head, under, first}
 use Rattle.ref_terms.specs.terms.Eta.{partial, partial_head, up_partial, both, previous, lower, on_index, eta, lam, lam_of}
-use Rattle.ref_terms.specs.terms.Ready.{ready}
-use Rattle.ref_terms.specs.terms.Apply.{apply}
-use Rattle.ref_terms.specs.unification.Spine.{apply_all}
+use Rattle.ref_terms.specs.terms.Text.{bare, text_apply, text_apply_all}
 use Rattle.lp_resolve.specs.Named.{IsHeadNamed, IsNamed}
 
 -- more symbols
@@ -47,10 +45,10 @@ named-sub n s h (At (Bound i)) w = h i
 named-sub n s h (At (Var v)) w = tt
 
 -- an application
-pub named-apply : (n : ℕ) (f a : Term) → IsNamed n f → IsNamed n a → IsNamed n (apply f a)
+pub named-apply : (n : ℕ) (f a : Term) → IsNamed n f → IsNamed n a → IsNamed n (text_apply f a)
 named-apply n (At h) a wf wa = (wf, wa)
 named-apply n (App f b) a wf wa = (wf, wa)
-named-apply n (Lam b) a wf wa = at (ready a) where
+named-apply n (Lam b) a wf wa = at (bare a) where
   opened : (i : ℕ) → IsNamed n (first a i)
   opened zero = wa
   opened (suc i) = tt

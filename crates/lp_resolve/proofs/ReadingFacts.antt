@@ -11,11 +11,9 @@ use Rattle.lp_parser.specs.declared.ast.AstTerm.{AstTerm, ind-AstTerm, roll-AstT
 use Rattle.lp_parser.specs.declared.ast.AstTerm.TheOpen.{AstTerm-F}
 use Rattle.ref_terms.specs.terms.Term as term
 use Rattle.ref_terms.specs.terms.Term.{Term, Lam, At, App}
-use Rattle.ref_terms.specs.terms.Apply.{apply}
+use Rattle.ref_terms.specs.terms.Text.{text_apply, text_apply_all, IsTextBuilt}
 use Rattle.ref_terms.specs.terms.Eta.{lam}
-use Rattle.ref_terms.specs.terms.Built.{IsBuilt}
-use Rattle.ref_terms.specs.lemmas.FillLemmas.{built-apply, built-lam}
-use Rattle.ref_terms.specs.unification.Spine.{apply_all}
+use Rattle.ref_terms.specs.lemmas.TextFacts.{text_built-apply, text_built-lam}
 use Rattle.lp_resolve.specs.declared.variable.Variable.{Variable}
 use Rattle.lp_resolve.specs.Symbols.{number_of}
 use Rattle.lp_resolve.specs.Variables.{Met, is_of, variable, number_in, with_word}
@@ -30,7 +28,7 @@ use Rattle.lp_resolve.proofs.Within.{within-more, within-apply, within-lam}
 
 -- a reading under so many binders, where these variables were met before
 pub record IsGood (depth : ℕ) (before : Met) (r : Reading) : Type 0 where
-  pub built : IsBuilt r.term
+  pub built : IsTextBuilt r.term
   pub within : IsWithin (length r.met.names) depth r.term
   pub grows : length before.names ≤ length r.met.names
   pub places : length r.met.places ≡ length before.places + count r.term
@@ -38,7 +36,7 @@ pub record IsGood (depth : ℕ) (before : Met) (r : Reading) : Type 0 where
 -- each term is built and within
 abbrev pub AreWithin : (variables depth : ℕ) → List Term → Type 0
 AreWithin n d [] = Unit {0}
-AreWithin n d (t ∷ ts) = (IsBuilt t × IsWithin n d t) × AreWithin n d ts
+AreWithin n d (t ∷ ts) = (IsTextBuilt t × IsWithin n d t) × AreWithin n d ts
 
 -- the same of readings one after another
 pub record AreGood (depth : ℕ) (before : Met) (r : Readings) : Type 0 where
@@ -94,7 +92,7 @@ word-good Hole w p scope met = word-by-good None Hole w p (length scope) met tt
 
 -- a term without variables and bound names
 pub record IsClosed (t : Term) : Type 0 where
-  pub built : IsBuilt t
+  pub built : IsTextBuilt t
   pub within : (n d : ℕ) → IsWithin n d t
   pub count_is : count t ≡ 0
 
@@ -124,9 +122,9 @@ all-good (r ∷ rs) h scope met =
     }
 
 -- a term applied to terms
-applied-good : (n d : ℕ) (f : Term) (ts : List Term) → IsBuilt f → IsWithin n d f → AreWithin n d ts → IsBuilt (apply_all f ts) × IsWithin n d (apply_all f ts)
+applied-good : (n d : ℕ) (f : Term) (ts : List Term) → IsTextBuilt f → IsWithin n d f → AreWithin n d ts → IsTextBuilt (text_apply_all f ts) × IsWithin n d (text_apply_all f ts)
 applied-good n d f [] b w ws = (b, w)
-applied-good n d f (t ∷ ts) b w ws = applied-good n d (apply f t) ts (built-apply f t b ws.0.0) (within-apply n d f t w ws.0.1) ws.1
+applied-good n d f (t ∷ ts) b w ws = applied-good n d (text_apply f t) ts (text_built-apply f t b ws.0.0) (within-apply n d f t w ws.0.1) ws.1
 
 -- an application
 application-good : (f : Reader) (rs : List Reader) → ReadsWell f → AllReadWell rs → ReadsWell (application f rs)
@@ -149,14 +147,14 @@ abstraction-good w body h scope met =
     let b = h (w ∷ scope) met in
     let r = body (w ∷ scope) met in
     record {
-      built = built-lam r.term b.built;
+      built = text_built-lam r.term b.built;
       within = within-lam (length r.met.names) (length scope) r.term b.within;
       grows = b.grows;
       places = b.places ∙ ap (λ n. length met.places + n) (sym (count-lam r.term));
     }
 
 -- a list of terms
-listed-good : (n d : ℕ) (ts : List Term) (tail : Term) → AreWithin n d ts → IsBuilt tail → IsWithin n d tail → IsBuilt (list_term ts tail) × IsWithin n d (list_term ts tail)
+listed-good : (n d : ℕ) (ts : List Term) (tail : Term) → AreWithin n d ts → IsTextBuilt tail → IsWithin n d tail → IsTextBuilt (list_term ts tail) × IsWithin n d (list_term ts tail)
 listed-good n d [] tail ws b w = (b, w)
 listed-good n d (t ∷ ts) tail ws b w =
     let rest = listed-good n d ts tail ws.1 b w in
@@ -223,7 +221,7 @@ reading-formed table t met =
     let back = as_term-tree_of (length r.met.names) 0 r.term good.within in
     record {
       fits = fits-before r.term [] refl;
-      built = subst IsBuilt (sym back) good.built;
+      built = subst IsTextBuilt (sym back) good.built;
       within = subst (IsWithin (length r.met.names) 0) (sym back) good.within;
     }
 

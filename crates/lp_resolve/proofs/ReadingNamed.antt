@@ -12,8 +12,7 @@ use Rattle.lp_parser.specs.declared.ast.AstTerm.{AstTerm, ind-AstTerm, roll-AstT
 use Rattle.lp_parser.specs.declared.ast.AstTerm.TheOpen.{AstTerm-F}
 use Rattle.ref_terms.specs.terms.Term as term
 use Rattle.ref_terms.specs.terms.Term.{Term, Lam, At, App}
-use Rattle.ref_terms.specs.terms.Apply.{apply}
-use Rattle.ref_terms.specs.unification.Spine.{apply_all}
+use Rattle.ref_terms.specs.terms.Text.{text_apply, text_apply_all}
 use Rattle.lp_resolve.specs.declared.variable.Variable.{Variable}
 use Rattle.lp_resolve.specs.Symbols.{number_of, interned, interned_all, Begins}
 use Rattle.lp_resolve.specs.Texts.{texts_of, texts_at, texts_of_tail}
@@ -113,9 +112,9 @@ all-known n (r ∷ rs) k scope met h =
     record { terms = (first.term, rest.terms); names = rest.names }
 
 -- a term applied to terms
-applied-named : (n : ℕ) (f : Term) (ts : List Term) → IsNamed n f → AreAllNamed n ts → IsNamed n (apply_all f ts)
+applied-named : (n : ℕ) (f : Term) (ts : List Term) → IsNamed n f → AreAllNamed n ts → IsNamed n (text_apply_all f ts)
 applied-named n f [] w ws = w
-applied-named n f (t ∷ ts) w ws = applied-named n (apply f t) ts (named-apply n f t w ws.0) ws.1
+applied-named n f (t ∷ ts) w ws = applied-named n (text_apply f t) ts (named-apply n f t w ws.0) ws.1
 
 -- an application
 application-known : (n : ℕ) (f : Reader) (rs : List Reader) → KeepsTo n f → AllKeepTo n rs → KeepsTo n (application f rs)

@@ -12,7 +12,7 @@ use Rattle.lp_parser.specs.declared.ast.AstTerm.{AstTerm}
 use Rattle.lp_parser.specs.declared.ast.AstTerm.TheVariants.{Word, Str, App, Bind, Op, Quant, List as Listed}
 use Rattle.ref_terms.specs.terms.Term as term
 use Rattle.ref_terms.specs.terms.Term.{Term}
-use Rattle.ref_terms.specs.unification.Spine.{apply_all}
+use Rattle.ref_terms.specs.terms.Text.{text_apply_all}
 use Rattle.ref_terms.specs.terms.Eta.{lam}
 use Rattle.ref_terms.specs.declared.tree.Tree.{Tree}
 use Rattle.lp_resolve.specs.Symbols.{number_of, interned, interned_all, Begins}
@@ -64,13 +64,13 @@ read-str table scope met t text p w tree is number within same fits = record {
 -- an application
 pub read-app : (table last : List (List ℕ)) (scope : List ℕ) (met between after : Met) (t h : AstTerm) (ts : List AstTerm) (f : Tree) (trees : List Tree) (tree : Tree)
     → t ≡ App h ts → IsRead table scope met h between f → Begins table last → AreRead last scope between ts after trees
-    → as_term tree ≡ apply_all (as_term f) (map as_term trees) → IsTrue (shape tree).fits
+    → as_term tree ≡ text_apply_all (as_term f) (map as_term trees) → IsTrue (shape tree).fits
     → IsRead last scope met t after tree
 read-app table last scope met between after t h ts f trees tree is head grows rest same fits = record {
   fits = fits;
   reads = λ later b. ap (λ (u : AstTerm). reading later u scope met) is ∙ ap (λ (r : Reader). r scope met) (reads-app later h ts)
       ∙ ap (λ (first : Reading). application (constant first.term) (map (reading later) ts) scope first.met) (head.reads later (begins-twice table last later grows b))
-      ∙ ap (λ (r : Readings). record { term = apply_all (as_term f) r.terms; met = r.met }) (rest.reads later b)
+      ∙ ap (λ (r : Readings). record { term = text_apply_all (as_term f) r.terms; met = r.met }) (rest.reads later b)
       ∙ ap (λ (x : Term). record { term = x; met = after }) (sym same);
 }
 

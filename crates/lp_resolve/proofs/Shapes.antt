@@ -4,7 +4,7 @@ use Rattle.std.specs.Prelude.{IsTrue}
 use Rattle.std.proofs.lemmas.List.{map-append}
 use Rattle.std.specs.List.{list_all}
 use Rattle.ref_terms.specs.terms.Term.{Term, Lam, At, App, Con, Int, Str, Name, Bound, Var}
-use Rattle.ref_terms.specs.terms.Apply.{apply}
+use Rattle.ref_terms.specs.terms.Text.{text_apply}
 use Rattle.ref_terms.specs.terms.Eta.{eta}
 use Rattle.ref_terms.specs.declared.tree.Tree.{Tree, out-Tree, fold_out-Tree, map-Tree}
 use Rattle.ref_terms.specs.declared.tree.Tree.TheVariants.{Ap}
@@ -98,7 +98,7 @@ open-ap head [] f = open-head head (first (head_shape head).abstraction f.some) 
 open-ap head (a ∷ arguments) f = open-applied (head_term head) (as_term a) (map as_term arguments)
 
 -- a term that isn't an abstraction gets one more argument
-pub apply-open : (t a : Term) → IsOpen t → apply t a ≡ App t a
+pub apply-open : (t a : Term) → IsOpen t → text_apply t a ≡ App t a
 apply-open (Lam b) a o = absurd o
 apply-open (At h) a o = refl
 apply-open (App f b) a o = refl

@@ -5,9 +5,7 @@ use Rattle.std.specs.Option.{option_map}
 use Rattle.ref_terms.specs.terms.Term.{Head, Term, Con, Int, Str, Name, Bound, Var, Lam, At, App}
 use Rattle.ref_terms.specs.terms.Index.{ren, ren_head, up, next, shift, sub, sub_head, under, first}
 use Rattle.ref_terms.specs.terms.Eta.{partial, partial_head, up_partial, both, previous, lower, on_index, eta, lam, lam_of}
-use Rattle.ref_terms.specs.terms.Ready.{ready}
-use Rattle.ref_terms.specs.terms.Apply.{apply}
-use Rattle.ref_terms.specs.unification.Spine.{apply_all}
+use Rattle.ref_terms.specs.terms.Text.{bare, text_apply, text_apply_all}
 use Rattle.lp_resolve.specs.Trees.{IsHeadWithin, IsWithin}
 
 -- more variables
@@ -50,10 +48,10 @@ within-sub n d e s h (At (Bound i)) w = h i w
 within-sub n d e s h (At (Var v)) w = w
 
 -- an application
-pub within-apply : (n d : ℕ) (f a : Term) → IsWithin n d f → IsWithin n d a → IsWithin n d (apply f a)
+pub within-apply : (n d : ℕ) (f a : Term) → IsWithin n d f → IsWithin n d a → IsWithin n d (text_apply f a)
 within-apply n d (At h) a wf wa = (wf, wa)
 within-apply n d (App f b) a wf wa = (wf, wa)
-within-apply n d (Lam b) a wf wa = at (ready a) where
+within-apply n d (Lam b) a wf wa = at (bare a) where
   opened : (i : ℕ) → i < suc d → IsWithin n d (first a i)
   opened zero lt = wa
   opened (suc i) lt = let below : i < d = omega arith in below

@@ -9,7 +9,7 @@ use Rattle.lp_parser.specs.declared.ast.AstTerm.{AstTerm, fold-AstTerm}
 use Rattle.lp_parser.specs.declared.ast.AstTerm.TheOpen.{AstTerm-F}
 use Rattle.ref_terms.specs.terms.Term.{Term, At, App, Con, Int, Str, Bound, Var}
 use Rattle.ref_terms.specs.terms.Eta.{lam}
-use Rattle.ref_terms.specs.unification.Spine.{apply_all}
+use Rattle.ref_terms.specs.terms.Text.{text_apply_all}
 use Rattle.lp_resolve.specs.Symbols.{reserved_names, number_of}
 use Rattle.lp_resolve.specs.Variables.{Met, number_in, met_word, met_hole}
 
@@ -65,7 +65,7 @@ abbrev pub application : Reader → List Reader → Reader
 application function arguments scope met =
     let f = function scope met in
     let rest = read_all arguments scope f.met in
-    record { term = apply_all f.term rest.terms; met = rest.met }
+    record { term = text_apply_all f.term rest.terms; met = rest.met }
 
 -- the abstraction of a body over a word
 abbrev pub abstraction : (word : ℕ) → Reader → Reader

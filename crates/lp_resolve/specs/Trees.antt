@@ -3,7 +3,7 @@ use Rattle.std.specs.Prelude.{◌≡◌, ℕ, ◌<◌, suc, Bool, true, false, n
 use Rattle.std.specs.List.{list_all}
 use Rattle.ref_terms.specs.terms.Term as term
 use Rattle.ref_terms.specs.terms.Term.{Term}
-use Rattle.ref_terms.specs.terms.Built.{IsBuilt}
+use Rattle.ref_terms.specs.terms.Text.{IsTextBuilt}
 use Rattle.ref_terms.specs.declared.tree.Tree.{Tree, fold-Tree}
 use Rattle.ref_terms.specs.declared.tree.Head.{Head, fold-Head}
 use Rattle.ref_terms.specs.declared.tree.Head.TheOpen.{Head-F, Tree-F}
@@ -89,8 +89,8 @@ IsWithin variables depth (term.At h) = IsHeadWithin variables depth h
 IsWithin variables depth (term.App f a) = IsWithin variables depth f × IsWithin variables depth a
 
 -- A well-formed tree over so many variables, under so many abstractions: each stuck head holds an abstraction and has
--- arguments, of which the first isn't ready; no abstraction can be contracted.
+-- arguments; and its term is built as those of a text are.
 pub record IsFormed (variables depth : ℕ) (tree : Tree) : Type 0 where
   pub fits : IsTrue (shape tree).fits
-  pub built : IsBuilt (as_term tree)
+  pub built : IsTextBuilt (as_term tree)
   pub within : IsWithin variables depth (as_term tree)

@@ -1,8 +1,7 @@
 //! Application and abstraction of trees.
 ghost use Rattle.std.specs.Prelude.{◌≡◌, ◌++◌, ◌∷◌, [], None, Some, IfOk, IfSome, IsTrue, map};
 ghost use Rattle.std.specs.Option.{option_map};
-ghost use Rattle.ref_terms.specs.terms.Apply.{apply};
-ghost use Rattle.ref_terms.specs.unification.Spine.{apply_all};
+ghost use Rattle.ref_terms.specs.terms.Text.{text_apply, text_apply_all};
 ghost use Rattle.ref_terms.specs.terms.Eta.{partial, lower, eta, lam};
 ghost use Rattle.ref_terms.specs.terms.Index.{sub, first};
 ghost use Rattle.ref_terms.specs.terms.Term as term;
@@ -256,7 +255,7 @@ fn opened(alloc: Global, body: &Tree, index: usize) -> Result<Tree, AllocError>
 fn applied(alloc: Global, tree: Tree, argument: Tree) -> Result<Tree, AllocError>
     requires tree { IsTrue (shape tree).fits }
     requires argument { IsTrue (shape argument).fits }
-    ensures term { IfOk result (λ new. as_term new ≡ apply (as_term tree) (as_term argument)) }
+    ensures term { IfOk result (λ new. as_term new ≡ text_apply (as_term tree) (as_term argument)) }
     ensures fits { IfOk result (λ new. IsTrue (shape new).fits) }
 {
     match tree {
@@ -294,7 +293,7 @@ pub(crate) fn applied_all(
 ) -> Result<Tree, AllocError>
     requires function { IsTrue (shape function).fits }
     requires arguments { IsTrue (all_fit (map shape arguments)) }
-    ensures term { IfOk result (λ tree. as_term tree ≡ apply_all (as_term function) (map as_term arguments)) }
+    ensures term { IfOk result (λ tree. as_term tree ≡ text_apply_all (as_term function) (map as_term arguments)) }
     ensures fits { IfOk result (λ tree. IsTrue (shape tree).fits) }
 {
     let mut rest = arguments.into_vec();

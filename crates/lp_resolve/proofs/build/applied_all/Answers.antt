@@ -1,7 +1,7 @@
 use Rattle.std.proofs.Common.{◌≡◌, ◌∙◌, List, [], ◌∷◌, ◌++◌, map, ap, sym, subst, refl}
 use Rattle.std.specs.Prelude.{IsTrue, reverse}
 use Rattle.std.proofs.lemmas.List.{reverse-reverse}
-use Rattle.ref_terms.specs.unification.Spine.{apply_all}
+use Rattle.ref_terms.specs.terms.Text.{text_apply_all}
 use Rattle.ref_terms.specs.declared.tree.Tree.{Tree}
 use Rattle.lp_resolve.specs.Trees.{as_term, Shape, shape, all_fit}
 use Rattle.lp_resolve.proofs.Arguments.{fit-reversed}
@@ -14,5 +14,5 @@ loop-argument-init c =
     record {
       fit = subst (λ (ts : List Tree). IsTrue (all_fit (map shape ts))) (sym items) (fit-reversed c.args.arguments c.requires.arguments);
       fits = c.requires.function;
-      applied = ap (λ (ts : List Tree). apply_all (as_term c.args.function) (map as_term ts)) back;
+      applied = ap (λ (ts : List Tree). text_apply_all (as_term c.args.function) (map as_term ts)) back;
     }

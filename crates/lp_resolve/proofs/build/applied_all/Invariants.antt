@@ -1,6 +1,6 @@
 use Rattle.std.proofs.Common.{◌≡◌, List, map, vec_len}
 use Rattle.std.specs.Prelude.{IsTrue, reverse}
-use Rattle.ref_terms.specs.unification.Spine.{apply_all}
+use Rattle.ref_terms.specs.terms.Text.{text_apply_all}
 use Rattle.lp_resolve.specs.Trees.{as_term, shape, all_fit}
 use Rattle.lp_resolve.proofs.build.applied_all.Given as goal
 
@@ -12,5 +12,5 @@ abbrev pub invariant-loop-argument : goal.invariant-loop-argument
 invariant-loop-argument l = record {
   fit : IsTrue (all_fit (map shape l.rest.items));
   fits : IsTrue (shape l.tree).fits;
-  applied : apply_all (as_term l.tree) (map as_term (reverse l.rest.items)) ≡ apply_all (as_term l.fn.function) (map as_term l.fn.arguments);
+  applied : text_apply_all (as_term l.tree) (map as_term (reverse l.rest.items)) ≡ text_apply_all (as_term l.fn.function) (map as_term l.fn.arguments);
 }

@@ -6,7 +6,7 @@ use Rattle.lp_parser.specs.declared.ast.AstTerm.TheVariants.{List as Listed}
 use Rattle.ref_terms.specs.terms.Term as term
 use Rattle.ref_terms.specs.terms.Term.{Term}
 use Rattle.ref_terms.specs.terms.Eta.{lam}
-use Rattle.ref_terms.specs.unification.Spine.{apply_all}
+use Rattle.ref_terms.specs.terms.Text.{text_apply_all}
 use Rattle.ref_terms.specs.declared.tree.Tree.{Tree}
 use Rattle.lp_resolve.specs.Symbols.{number_of, interned, interned_all, Begins}
 use Rattle.lp_resolve.specs.Texts.{texts_of}
@@ -137,7 +137,7 @@ read_application-returns-clause-read t c =
     let Given : List AstTerm → List ℕ → Type 0 = λ ts s. AreRead last s c.read.new.variables ts c.read_all.new.variables trees in
     let rest : AreRead last c.args.scope.now c.read.new.variables c.in-App.arguments c.read_all.new.variables trees =
     subst (λ (s : List ℕ). Given c.in-App.arguments s) c.in_ok-function.ensures.scope c.in_ok-arguments.ensures.read in
-    if-ok-two c.applied_all.result (λ (tree : Tree). as_term tree ≡ apply_all (as_term c.in_ok-function.function) (map as_term trees)) (λ (tree : Tree). IsTrue (shape tree).fits) _
+    if-ok-two c.applied_all.result (λ (tree : Tree). as_term tree ≡ text_apply_all (as_term c.in_ok-function.function) (map as_term trees)) (λ (tree : Tree). IsTrue (shape tree).fits) _
     (λ tree same fits. read-app c.read.new.symbols last c.args.scope.now c.args.variables.now c.read.new.variables c.read_all.new.variables c.args.term.now c.in-App.head c.in-App.arguments
     c.in_ok-function.function trees tree c.in-App.is head c.in_ok-arguments.ensures.begins rest same fits)
     c.applied_all.ensures.term c.applied_all.ensures.fits
