@@ -23,6 +23,7 @@ pub mod ReadingForms
 pub mod ReadingNamed
 pub mod ReadingSteps
 pub mod ReadsAsLemmas
+pub mod Rebuilt
 pub mod Replacing
 pub mod Results
 pub mod RuleFormed

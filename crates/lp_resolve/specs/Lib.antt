@@ -14,6 +14,7 @@ pub mod Queries
 pub mod Reading
 pub mod Reads
 pub mod ReadsAs
+pub mod Rebuilt
 pub mod Replacing
 pub mod Scopes
 pub mod StaticRules

@@ -52,7 +52,7 @@ aligned _ _ = None
 abbrev pub plain_pair : List Tree → PairTree → Option Pair
 plain_pair goals pair = aligned (whole_place pair.left 0 goals) (whole_place pair.right 0 goals)
 
--- the rule; each of its pairs aligns two arguments, where no static rule is broken
+-- the rule; each of its pairs aligns two arguments, where no static rule is broken, and no text gives its body a context
 abbrev pub plain_rule : RuleTree → plain.Rule
 plain_rule r = record {
   names = map (λ c. c.0) r.names;
@@ -61,6 +61,7 @@ plain_rule r = record {
   removed = map plain_head r.removed;
   pairs = filter_map (plain_pair (goals_of r)) r.pairs;
   tests = map plain_term r.tests;
+  body_context = None;
   body = option_map plain_term r.body;
 }
 

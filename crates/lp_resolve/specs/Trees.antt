@@ -89,7 +89,7 @@ IsWithin variables depth (term.At h) = IsHeadWithin variables depth h
 IsWithin variables depth (term.App f a) = IsWithin variables depth f × IsWithin variables depth a
 
 -- A well-formed tree over so many variables, under so many abstractions: each stuck head holds an abstraction and has
--- arguments, of which the first isn't bare; no abstraction can be contracted.
+-- arguments; and its term is built as those of a text are.
 pub record IsFormed (variables depth : ℕ) (tree : Tree) : Type 0 where
   pub fits : IsTrue (shape tree).fits
   pub built : IsTextBuilt (as_term tree)

@@ -24,7 +24,7 @@ mod variable;
 mod variables;
 
 pub use checked::Checked;
-pub use laws::{law_first_breach, law_predicates};
+pub use laws::{law_first_breach, law_predicates, law_rebuilt};
 pub use preds::Preds;
 pub use program::{
     ClausePlaces, ClauseTree, HeadTree, PairTree, Pred, PredLine, Program, RulePlaces, RuleTree,
@@ -34,5 +34,5 @@ pub use read::resolve_query;
 pub use resolve::resolve_program;
 pub use static_rule::StaticRule;
 pub use symbols::Symbols;
-pub use trees::{arity_of, constant_of};
+pub use trees::{args_of, arity_of, constant_of};
 pub use variable::Variable;

@@ -15,6 +15,16 @@ pub fn constant_of(tree: &Tree) -> Option<Sym>
     }
 }
 
+/// The arguments of a tree, from the left; an abstraction has none.
+pub fn args_of(tree: &Tree) -> &[Tree]
+    ensures { result.now ≡ args_of tree.now }
+{
+    match tree {
+        Tree::Ap(_, args) => args.as_slice(),
+        Tree::Lam(_) => &[],
+    }
+}
+
 /// How many arguments a tree has.
 pub fn arity_of(tree: &Tree) -> usize
     ensures { result ≡ length (args_of tree.now) }

@@ -5,9 +5,9 @@ ghost use Rattle.lp_resolve.specs.StaticRules.{goals_of, has_whole, head_with};
 ghost use Rattle.mode_check.specs.Sides.{unless_seen};
 
 use crate::heads::{goal_at, head_count};
-use crate::trees::{args_of, variable_of};
+use crate::trees::variable_of;
 use indexmap::IndexMap;
-use lp_resolve::RuleTree;
+use lp_resolve::{RuleTree, args_of};
 use ref_terms::Tree;
 use std::alloc::{AllocError, Global};
 

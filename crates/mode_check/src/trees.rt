@@ -1,19 +1,9 @@
 //! What trees are, seen from their root.
 ghost use Rattle.std.specs.Prelude.{◌≡◌};
-ghost use Rattle.lp_resolve.specs.Heads.{args_of, variable_of};
+ghost use Rattle.lp_resolve.specs.Heads.{variable_of};
 ghost use Rattle.lp_resolve.specs.Occurrences.{walked};
 
 use ref_terms::{Head, Tree};
-
-/// The arguments of a tree, from the left.
-pub fn args_of(tree: &Tree) -> &[Tree]
-    ensures { result.now ≡ args_of tree.now }
-{
-    match tree {
-        Tree::Ap(_, args) => args.as_slice(),
-        Tree::Lam(_) => &[],
-    }
-}
 
 /// The number of the variable that a tree is, without arguments.
 pub fn variable_of(tree: &Tree) -> Option<usize>

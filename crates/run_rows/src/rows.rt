@@ -16,6 +16,7 @@ fail. ¦ p ¦ refused: a:1:1: S5 / 3
 pred p i:t. pred p i:t. ¦ p ¦ refused: a:1:18: S1 / 3
 (x\\ p x) a. ¦ p a ¦ answer 1 / no more / 0
 p (x\\ x). ¦ p ¦ refused: a: not yet / 3
+p ((x\\ f (X x)) b). ¦ p Y ¦ refused: a: not yet / 3
 p _. ¦ p ¦ refused: a: not yet / 3
 p true. ¦ p ¦ refused: a: not yet / 3
 p X. ¦ p ¦ refused: a: not yet / 3
