@@ -46,7 +46,7 @@ returns-in-Lam-clause-unreached c =
     let here : term_at (terms_of c.args.cells.now) c.args.t ≡ term.Lam (term_at (terms_of c.args.cells.now) c.in-Lam.body) = c.get.ensures.term ∙ ap (cell_term (terms_of c.args.cells.now)) c.in-Lam.is in
     IfOk-weaker c.made_lam.result _ _
     (λ r w none v absent. (quotes-lam (put_head c.args.heap.now c.args.depth c.args.put) c.args.depth 0 c.args.depth (term_at (terms_of c.args.cells.now) c.in-Lam.body) (value_of c.quoted_under.new.heap c.in_ok-inner.inner) (value_of c.made_lam.new.heap r) (let z : c.args.depth ≡ c.args.depth + 0 = omega arith in z) c.in_ok-inner.ensures.quotes w).misses
-        (none-keeps c.args.heap.now c.args.depth c.args.put none) v (sym (ap (occurs v) here) ∙ absent)) c.made_lam.ensures.lam
+    (none-keeps c.args.heap.now c.args.depth c.args.put none) v (sym (ap (occurs v) here) ∙ absent)) c.made_lam.ensures.lam
 
 pub returns-in-Lam-clause-grows : goal.returns-in-Lam-clause-grows
 returns-in-Lam-clause-grows c = grows-trans c.args.heap.now c.quoted_under.new.heap c.made_lam.new.heap [] [] [] c.quoted_under.ensures.grows c.made_lam.ensures.grows
