@@ -39,7 +39,7 @@ below-after r s (term.Str c) = refl
 below-after r s (term.Name c) = refl
 below-after r s (term.Var c) = refl
 
-fill-after : (r : Head → Term) (s : ℕ → Term) (t : Term) → fill r (sub s t) ≡ fill (λ h. fill r (sub_head s h)) t
+pub fill-after : (r : Head → Term) (s : ℕ → Term) (t : Term) → fill r (sub s t) ≡ fill (λ h. fill r (sub_head s h)) t
 fill-after r s (term.Lam b) = ap lam (fill-after (below r) (under s) b ∙ ap (λ (q : Head → Term). fill q b) (fun_ext (below-after r s)))
 fill-after r s (At h) = refl
 fill-after r s (term.App f a) = ap₂ apply (fill-after r s f) (fill-after r s a)

@@ -29,8 +29,8 @@ use Rattle.level_terms.proofs.ValidLemmas.{nodes_valid, valid_deeper}
 use Rattle.beta_fragment.specs.declared.glance.Readiness.{Readiness}
 use Rattle.beta_fragment.specs.declared.glance.Readiness.TheVariants.{Level as some_level, Ready, Unready, Unknown}
 use Rattle.level_terms.specs.Values.{value_of, IsLamOf, IsVarOf}
-use Rattle.level_terms.proofs.MakeLemmas.{and_both, below_true}
 use Rattle.level_terms.proofs.ReachLemmas.{lam-misses, var-misses}
+use Rattle.level_terms.proofs.MakeLemmas.{and_both, below_true}
 use Rattle.beta_fragment.specs.HeadForm.{IsAbstraction}
 use Rattle.beta_fragment.specs.Firm.{IsPlain, IsReadyNode, IsOpenNode, IsFirmHead, IsFirm, IsFirmNode, IsPlainNode, IsAbstractionNode, EndsOtherwise, IsOther, IsReadiness}
 use Rattle.level_terms.proofs.ReadLemmas.{read-follows, places-ready}

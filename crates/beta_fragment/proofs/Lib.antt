@@ -16,6 +16,10 @@ pub mod PutLemmas
 pub mod PutWork
 pub mod FilledLemmas
 pub mod StandLemmas
+pub mod UnreachedNodes
+pub mod AppliedNodes
+pub mod GentleLemmas
+pub mod InstantLemmas
 pub mod LevelLemmas
 pub mod CellLemmas
 pub mod LevelListLemmas

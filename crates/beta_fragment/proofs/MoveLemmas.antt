@@ -180,6 +180,7 @@ value-moves g ns to t base s value v x sound e f valid low few m = record {
         go true false q r = absurd (let l : i < base = below_from i base q in let z : min base (slice_index g.depths v.index) ≤ i = above_from i (min base (slice_index g.depths v.index)) r in omega (arith, l, z, k))
         go false true q r = absurd (let l : base ≤ i = above_from i base q in let z : i < min base (slice_index g.depths v.index) = below_from i (min base (slice_index g.depths v.index)) r in omega (arith, l, z))
 
+-- the node of a level
 -- a node that has no moved level
 pub kept-moves : (g : Graph) (ns : List ℕ) (fixed to t base s k : ℕ) (x : Value) → IsMove ns fixed to → IsValid g t k → k ≤ fixed → k ≤ base → x.term ≡ read g t → x.holds ≡ valid g.nodes g.depths t → Moves g ns to t base s x
 kept-moves g ns fixed to t base s k x move v f b e h = record {

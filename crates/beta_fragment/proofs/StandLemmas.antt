@@ -1,5 +1,5 @@
 -- Names that stand for ready terms.
-use Rattle.std.proofs.Common.{◌≡◌, ℕ, zero, suc, ◌<◌, ◌≤◌, ◌+◌, ◌-◌, ◌++◌, List, [], ◌∷◌, length, map, take, reverse, slice_index, cond, nat_eq, Bool, true, false, Some, min, get_or, refl, sym, ap, ap₂, ◌∙◌, arith, subst, eqb-true, eq-eqb, length-append}
+use Rattle.std.proofs.Common.{◌≡◌, ◌||◌, nat_lt, ℕ, zero, suc, ◌<◌, ◌≤◌, ◌+◌, ◌-◌, ◌++◌, List, [], ◌∷◌, length, map, take, reverse, slice_index, cond, nat_eq, Bool, true, false, Some, min, get_or, refl, sym, ap, ap₂, ◌∙◌, arith, subst, eqb-true, eq-eqb, length-append}
 use Rattle.std.proofs.lemmas.List.{reverse-reverse, map-append, length-reverse}
 use Rattle.level_terms.specs.declared.node.Node.TheVariants.{Lam}
 use Rattle.level_terms.specs.declared.node.TermId.{TermId}
@@ -22,24 +22,25 @@ use Rattle.ref_terms.specs.laws.TermLaws.{AllBuilt, KeepsReady}
 use Rattle.ref_terms.specs.lemmas.ComposeLemmas.{fill-apply}
 use Rattle.beta_fragment.specs.Names.{names, renamed}
 use Rattle.beta_fragment.specs.Moves.{IsMove, put_name, Lacks}
-use Rattle.beta_fragment.specs.HeadForm.{AllValidAt, all_read, IsHeadForm, rigid_head}
+use Rattle.beta_fragment.specs.HeadForm.{AllValidAt, all_read, IsHeadForm, HasLowHead, rigid_head}
 use Rattle.beta_fragment.specs.declared.answer.RigidHead.{RigidHead}
 use Rattle.beta_fragment.specs.declared.answer.Whnf.{Whnf}
-use Rattle.beta_fragment.specs.declared.answer.Whnf.TheVariants.{Rigid, Flex, Redex}
+use Rattle.beta_fragment.specs.declared.answer.Whnf.TheVariants.{Lam as LamForm, Rigid, Flex, Redex}
+use Rattle.beta_fragment.specs.declared.answer.RigidHead.TheVariants.{Con, Int, Str, Level as LevelHead}
 use Rattle.level_terms.specs.declared.node.VarId.{VarId}
-use Rattle.beta_fragment.specs.Firm.{IsSpine}
+use Rattle.beta_fragment.specs.Firm.{IsSpine, IsPlain}
 use Rattle.beta_fragment.specs.Turn.{GoesOn, TakesOn, FirstReady, IsFirstArg}
 use Rattle.beta_fragment.specs.Standing.{StandFor, ArePut, HasForm, FoundAs}
 use Rattle.level_terms.proofs.ReadLemmas.{read-built, valid-below, grown-reads}
 use Rattle.beta_fragment.proofs.EnterLemmas.{body-applied, body-valid}
 use Rattle.level_terms.proofs.MakeLemmas.{parts-there, apply_all-append}
-use Rattle.beta_fragment.proofs.MoveLemmas.{node-before, assigned-before}
+use Rattle.beta_fragment.proofs.MoveLemmas.{node-before, assigned-before, below_from, above_from}
 use Rattle.beta_fragment.proofs.WorkLemmas.{lam-size}
 use Rattle.beta_fragment.proofs.NamelessLemmas.{nameless-read}
 use Rattle.beta_fragment.proofs.PutLemmas.{put-absent}
 use Rattle.beta_fragment.proofs.FilledLemmas.{low_names, low-lack, low-same}
 use Rattle.beta_fragment.proofs.HeadLemmas.{renamed-places, take-front, take-next, take-more, lam-within, newest-arg, valid-append, read-grown_all, valid-grown_all}
-use Rattle.beta_fragment.proofs.FirmLemmas.{applied-ready}
+use Rattle.beta_fragment.proofs.FirmLemmas.{applied-ready, apply-plain}
 use Rattle.beta_fragment.proofs.TakingLaws.{rigid-ready}
 
 -- a ready term in the place of a name
@@ -72,7 +73,7 @@ pub put-other : (n : ℕ) (s : Term) (h : Head) → is_name n h ≡ false → fi
 put-other n s h e = ap (λ b. cond b s (At h)) e
 
 -- the name of a depth isn't in what is valid there
-low-read : (g : Graph) (t depth : ℕ) → IsValid g t depth → has_name depth (read g t names) ≡ false
+pub low-read : (g : Graph) (t depth : ℕ) → IsValid g t depth → has_name depth (read g t names) ≡ false
 low-read g t depth v = ap (has_name depth) (readings_local g t depth names (low_names depth) v (λ i h. low-same depth i h)) ∙ nameless-read depth g t (low_names depth) (low-lack depth)
 
 pub put-low_read : (g : Graph) (t depth : ℕ) (s : Term) → IsValid g t depth → fill (put_name depth s) (read g t names) ≡ read g t names
@@ -167,10 +168,10 @@ stand-grown g h depth s w (a ∷ older) u x k =
 -- one more
 pub stand-more : (g : Graph) (depth to : ℕ) (puts : List TermId) (a : TermId) (u x y : Term) → to ≡ depth + length puts → IsValid g a.index to → ready (read g a.index names) ≡ true → x ≡ fill (put_name to (read g a.index names)) y → StandFor g depth puts u x → StandFor g depth (a ∷ puts) u y
 stand-more g depth to puts a u x y e v r q k = (
-    subst (IsValid g a.index) e v,
-    r,
-    subst (StandFor g depth puts u) (q ∙ ap (λ n. fill (put_name n (read g a.index names)) y) e) k,
-  )
+  subst (IsValid g a.index) e v,
+  r,
+  subst (StandFor g depth puts u) (q ∙ ap (λ n. fill (put_name n (read g a.index names)) y) e) k,
+)
 
 -- nodes that were put
 pub puts-reads : (g h : Graph) (depth : ℕ) (s : Term) (ts rs : List TermId) → ArePut g h depth s ts rs → all_read h rs ≡ map (fill (put_name depth s)) (all_read g ts)
@@ -222,11 +223,11 @@ own-below depth ls long own i h = let lt : i < depth = omega (arith, h, long) in
 -- the form of a term before more arguments
 pub rigid-before : (g : Graph) (depth : ℕ) (u : Term) (head : RigidHead) (first args list : List TermId) → IsHeadForm g depth u (Rigid head first) → AllValidAt g args depth → list ≡ first ++ args → IsHeadForm g depth (apply_all u (all_read g args)) (Rigid head list)
 rigid-before g depth u head first args list k v e = (
-    subst (λ ts. AllValidAt g ts depth) (sym e) (valid-append g depth first args k.0 v),
-    ap (λ z. apply_all z (all_read g args)) k.1
-        ∙ sym (apply_all-append (all_read g first) (all_read g args) (At (rigid_head head)))
-        ∙ ap (apply_all (At (rigid_head head))) (sym (map-append (λ (t : TermId). read g t.index names) first args) ∙ ap (all_read g) (sym e)),
-  )
+  subst (λ ts. AllValidAt g ts depth) (sym e) (valid-append g depth first args k.0 v),
+  ap (λ z. apply_all z (all_read g args)) k.1
+      ∙ sym (apply_all-append (all_read g first) (all_read g args) (At (rigid_head head)))
+      ∙ ap (apply_all (At (rigid_head head))) (sym (map-append (λ (t : TermId). read g t.index names) first args) ∙ ap (all_read g) (sym e)),
+)
 
 -- forms with a node in the place of the name of the depth
 put-form : (g : Graph) (depth : ℕ) (s f x : Term) (args : List TermId) (ys : List Term) → IsBuilt s → ready s ≡ true → x ≡ apply_all f (all_read g args) → ys ≡ map (fill (put_name depth s)) (all_read g args) → fill (put_name depth s) x ≡ apply_all (fill (put_name depth s) f) ys
@@ -324,13 +325,13 @@ ends-found g h depth to head ls args puts u w s gr f e k =
 
 pub stands-grown : (g h : Graph) (depth to : ℕ) (puts : List TermId) (u : Term) (head : ℕ) (ls : List ℕ) (args : List TermId) → IsSound g → Grows g h [] [] → IsValid g head (length ls) → Stands g depth to puts u head ls args → Stands h depth to puts u head ls args
 stands-grown g h depth to puts u head ls args s gr v k = (
-    k.0,
-    stand-grown g h depth s gr puts u k.0 k.1,
-    record {
-      reads = k.2.reads ∙ ap₂ apply_all (ap (λ r. r (renamed ls)) (sym (grown-reads g h s gr head (valid-below g head (length ls) v)))) (sym (read-grown_all g h to s gr (reverse args) k.2.valid));
-      valid = valid-grown_all g h to s gr (reverse args) k.2.valid;
-    },
-  )
+  k.0,
+  stand-grown g h depth s gr puts u k.0 k.1,
+  record {
+    reads = k.2.reads ∙ ap₂ apply_all (ap (λ r. r (renamed ls)) (sym (grown-reads g h s gr head (valid-below g head (length ls) v)))) (sym (read-grown_all g h to s gr (reverse args) k.2.valid));
+    valid = valid-grown_all g h to s gr (reverse args) k.2.valid;
+  },
+)
 
 -- a rigid form is of a ready term
 pub rigid-form_ready : (g : Graph) (depth : ℕ) (u : Term) (form : Whnf) (head : RigidHead) (args : List TermId) → form ≡ Rigid head args → IsHeadForm g depth u form → ready u ≡ true
@@ -345,3 +346,22 @@ first-ready g a (b ∷ ts) w r = subst (λ (z : TermId). ready (read g z.index n
 pub first-valid : (g : Graph) (depth : ℕ) (a : TermId) (ts : List TermId) → IsFirstArg a ts → AllValidAt g ts depth → IsValid g a.index depth
 first-valid g depth a [] w v = absurd w
 first-valid g depth a (b ∷ ts) w v = subst (λ (z : TermId). IsValid g z.index depth) (sym w) v.0
+
+-- the head of a form is in the term
+has-head : (n : ℕ) (xs : List Term) (t : Term) → IsPlain t → has_name n t ≡ true → has_name n (apply_all t xs) ≡ true
+has-head n [] t w e = e
+has-head n (x ∷ xs) t w e = subst (λ z. has_name n (apply_all z xs) ≡ true) (sym (apply-plain t x w)) (has-head n xs (term.App t x) tt (ap (λ b. b || has_name n x) e))
+
+pub form-low : (g h : Graph) (t depth : ℕ) (w : Whnf) → IsValid g t depth → IsHeadForm h depth (read g t names) w → HasLowHead depth w
+form-low g h t depth (LamForm r) v k = tt
+form-low g h t depth (Flex x args) v k = tt
+form-low g h t depth (Redex r args) v k = tt
+form-low g h t depth (Rigid (Con c) args) v k = tt
+form-low g h t depth (Rigid (Int n) args) v k = tt
+form-low g h t depth (Rigid (Str s) args) v k = tt
+form-low g h t depth (Rigid (LevelHead l) args) v k = go (nat_lt l depth) refl
+  where
+    go : (b : Bool) → nat_lt l depth ≡ b → l < depth
+    go true e = below_from l depth e
+    go false e = absurd (let low = above_from l depth e in
+        let z : true ≡ false = sym (has-head l (all_read h args) (names l) tt (eq-eqb l l refl)) ∙ sym (ap (has_name l) k.1) ∙ low-read g t l (valid_deeper g t depth l v low) in cc)

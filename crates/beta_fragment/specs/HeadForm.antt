@@ -53,3 +53,8 @@ IsHeadForm g depth u (Lam t) = ReadsAsLam g t.index depth × (u ≡ read g t.ind
 IsHeadForm g depth u (Rigid h args) = AllValidAt g args depth × (u ≡ apply_all (term.At (rigid_head h)) (all_read g args))
 IsHeadForm g depth u (Flex v args) = (v.index < length g.depths) × (value_in g.assigned v.index ≡ None) × AllValidAt g args depth × (u ≡ apply_all (term.At (term.Var v.index)) (all_read g args))
 IsHeadForm g depth u (Redex t args) = ReadsAsLam g t.index depth × FirstUnready g args × AllValidAt g args depth × (u ≡ apply_all (read g t.index names) (all_read g args))
+
+-- where a form's head is the name of a level, the level lies below the depth
+abbrev pub HasLowHead : (depth : ℕ) → Whnf → Type 0
+HasLowHead depth (Rigid (Level l) args) = l < depth
+HasLowHead depth w = Unit {0}

@@ -7,6 +7,7 @@ pub mod Firm
 pub mod Spine
 pub mod Turn
 pub mod Standing
+pub mod Instantiation
 pub mod Cells
 pub mod Quoted
 pub mod LevelList

@@ -17,7 +17,7 @@ ghost use Rattle.ref_terms.specs.unification.Spine.{apply_all};
 ghost use Rattle.beta_fragment.specs.Names.{names, renamed, AllBelow};
 ghost use Rattle.beta_fragment.specs.Moves.{IsMove};
 ghost use Rattle.level_terms.specs.Values.{IsVarOf, value_of};
-ghost use Rattle.beta_fragment.specs.HeadForm.{IsHeadForm, AllValidAt, all_read, rigid_head, ReadsAsLam};
+ghost use Rattle.beta_fragment.specs.HeadForm.{IsHeadForm, HasLowHead, AllValidAt, all_read, rigid_head, ReadsAsLam};
 ghost use Rattle.beta_fragment.specs.Firm.{IsSpine, IsAbstractionNode};
 ghost use Rattle.beta_fragment.specs.Spine.{args_in};
 ghost use Rattle.beta_fragment.specs.Body.{IsLam};
@@ -41,6 +41,7 @@ const NESTING: usize = 1000;
 pub fn whnf(alloc: Global, heap: &mut Heap, t: TermId, depth: usize) -> Result<Whnf, AllocError>
     requires { IsValid heap.old t.index depth }
     ensures form { IfOk result (λ w. IsHeadForm heap.new depth (read heap.old t.index names) w) }
+    ensures low { IfOk result (λ w. HasLowHead depth w) }
     ensures variables { heap.new.depths ≡ heap.old.depths }
     ensures grows { Grows heap.old heap.new [] [] }
 {

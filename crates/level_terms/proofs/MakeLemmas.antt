@@ -25,7 +25,7 @@ use Rattle.ref_terms.specs.terms.Apply.{apply}
 use Rattle.ref_terms.specs.unification.Spine.{apply_all}
 use Rattle.level_terms.specs.Values.{Value, value_of, AllMiss, IsLamOf, IsAppOf, IsLevelOf, IsVarOf}
 use Rattle.level_terms.proofs.ReadLemmas.{grown-reads}
-use Rattle.level_terms.proofs.ReachLemmas.{tree-grown, lam-misses, app-misses, parts-miss, level-misses, var-misses}
+use Rattle.level_terms.proofs.ReachLemmas.{tree-grown, lam-misses, app-misses, level-misses, var-misses, parts-miss}
 
 -- the newest node
 pub newest : (n : Node) (older : List Node) → node_at (n ∷ older) (length older) ≡ Some n

@@ -83,10 +83,10 @@ whnf_within-loop-puts-preserved t c =
 
 pub whnf_within-placed-requires-clause-found : goal.whnf_within-placed-requires-clause-found
 whnf_within-placed-requires-clause-found t c = (
-    read c.args.heap.now c.args.t.index names,
-    ends-found c.takes_first.new.heap c.one_turn.new.heap c.args.depth c.loop-puts.to c.loop-puts.head.index c.loop-puts.levels c.loop-puts.args.items c.loop-puts.puts.items (read c.args.heap.now c.args.t.index names) c.in-Ends.form c.is_sound-in-loop-puts-2.ensures c.one_turn.ensures.grows
-        (subst (IsTurn c.loop-puts.to c.takes_first.new.heap c.one_turn.new.heap c.loop-puts.head.index c.loop-puts.levels c.one_turn.new.levels c.one_turn.new.fixed c.loop-puts.args.items c.one_turn.new.args.items) c.in-Ends.is c.in_ok-next.ensures.turn) c.loop-puts.invariant.long (stands-grown c.loop-puts.heap c.takes_first.new.heap c.args.depth c.loop-puts.to (reverse c.loop-puts.puts.items) (read c.args.heap.now c.args.t.index names) c.loop-puts.head.index c.loop-puts.levels c.loop-puts.args.items c.is_sound-in-loop-puts.ensures c.takes_first.ensures.grows c.loop-puts.invariant.valid c.loop-puts.invariant.spine),
-  )
+  read c.args.heap.now c.args.t.index names,
+  ends-found c.takes_first.new.heap c.one_turn.new.heap c.args.depth c.loop-puts.to c.loop-puts.head.index c.loop-puts.levels c.loop-puts.args.items c.loop-puts.puts.items (read c.args.heap.now c.args.t.index names) c.in-Ends.form c.is_sound-in-loop-puts-2.ensures c.one_turn.ensures.grows
+      (subst (IsTurn c.loop-puts.to c.takes_first.new.heap c.one_turn.new.heap c.loop-puts.head.index c.loop-puts.levels c.one_turn.new.levels c.one_turn.new.fixed c.loop-puts.args.items c.one_turn.new.args.items) c.in-Ends.is c.in_ok-next.ensures.turn) c.loop-puts.invariant.long (stands-grown c.loop-puts.heap c.takes_first.new.heap c.args.depth c.loop-puts.to (reverse c.loop-puts.puts.items) (read c.args.heap.now c.args.t.index names) c.loop-puts.head.index c.loop-puts.levels c.loop-puts.args.items c.is_sound-in-loop-puts.ensures c.takes_first.ensures.grows c.loop-puts.invariant.valid c.loop-puts.invariant.spine),
+)
 
 pub whnf_within-returns-in-Ends-clause-form : goal.whnf_within-returns-in-Ends-clause-form
 whnf_within-returns-in-Ends-clause-form t c = IfOk-weaker c.placed.result _ _

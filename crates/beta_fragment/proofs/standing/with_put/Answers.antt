@@ -20,11 +20,11 @@ form_before-requires-clause-valid c = growth_keeps_valid c.args.heap.now c.put_e
 pub returns-then-is_stand_in-clause-form : goal.returns-then-is_stand_in-clause-form
 returns-then-is_stand_in-clause-form c = IfOk-weaker c.form_before.result _ _
     (λ w f x k.
-        let s = read c.args.heap.now c.args.put.index names in
-        let same = ap (λ r. r names) (grown-reads c.args.heap.now c.put_each.new.heap c.is_sound.ensures c.put_each.ensures.grows c.args.put.index (valid-below c.args.heap.now c.args.put.index c.args.depth c.requires.put)) in
-        let whole = with-rigid c.args.heap.now c.args.depth (read c.args.heap.now c.args.put.index names) x c.args.form c.in-Rigid.head c.in-Rigid.args (all_read c.put_each.new.heap c.in_ok-list-in-Rigid.list) (read-built c.args.heap.now c.args.put.index names) c.requires.ready c.in-Rigid.is k (c.in_ok-list-in-Rigid.ensures.reads ∙ ap (λ (us : List TermId). map (fill (put_name c.args.depth (read c.args.heap.now c.args.put.index names))) (all_read c.args.heap.now us)) c.as_slice.ensures)
-        ∙ ap (λ z. apply_all z (all_read c.put_each.new.heap c.in_ok-list-in-Rigid.list)) (put-here c.args.depth (read c.args.heap.now c.args.put.index names) (rigid_head c.in-Rigid.head) (c.is_stand_in.ensures ∙ c.if-is_stand_in.true) ∙ sym same) in
-        subst (λ u. IsHeadForm c.form_before.new.heap c.args.depth u w) (sym whole) f)
+    let s = read c.args.heap.now c.args.put.index names in
+    let same = ap (λ r. r names) (grown-reads c.args.heap.now c.put_each.new.heap c.is_sound.ensures c.put_each.ensures.grows c.args.put.index (valid-below c.args.heap.now c.args.put.index c.args.depth c.requires.put)) in
+    let whole = with-rigid c.args.heap.now c.args.depth (read c.args.heap.now c.args.put.index names) x c.args.form c.in-Rigid.head c.in-Rigid.args (all_read c.put_each.new.heap c.in_ok-list-in-Rigid.list) (read-built c.args.heap.now c.args.put.index names) c.requires.ready c.in-Rigid.is k (c.in_ok-list-in-Rigid.ensures.reads ∙ ap (λ (us : List TermId). map (fill (put_name c.args.depth (read c.args.heap.now c.args.put.index names))) (all_read c.args.heap.now us)) c.as_slice.ensures)
+    ∙ ap (λ z. apply_all z (all_read c.put_each.new.heap c.in_ok-list-in-Rigid.list)) (put-here c.args.depth (read c.args.heap.now c.args.put.index names) (rigid_head c.in-Rigid.head) (c.is_stand_in.ensures ∙ c.if-is_stand_in.true) ∙ sym same) in
+    subst (λ u. IsHeadForm c.form_before.new.heap c.args.depth u w) (sym whole) f)
     c.form_before.ensures.form
 
 pub returns-then-is_stand_in-clause-grows : goal.returns-then-is_stand_in-clause-grows
@@ -32,10 +32,10 @@ returns-then-is_stand_in-clause-grows c = grows-trans c.args.heap.now c.put_each
 
 pub returns-else-is_stand_in-clause-form : goal.returns-else-is_stand_in-clause-form
 returns-else-is_stand_in-clause-form c = λ x k. (
-    c.in_ok-list-in-Rigid.ensures.valid,
-    with-rigid c.args.heap.now c.args.depth (read c.args.heap.now c.args.put.index names) x c.args.form c.in-Rigid.head c.in-Rigid.args (all_read c.put_each.new.heap c.in_ok-list-in-Rigid.list) (read-built c.args.heap.now c.args.put.index names) c.requires.ready c.in-Rigid.is k (c.in_ok-list-in-Rigid.ensures.reads ∙ ap (λ (us : List TermId). map (fill (put_name c.args.depth (read c.args.heap.now c.args.put.index names))) (all_read c.args.heap.now us)) c.as_slice.ensures)
-        ∙ ap (λ z. apply_all z (all_read c.put_each.new.heap c.in_ok-list-in-Rigid.list)) (put-other c.args.depth (read c.args.heap.now c.args.put.index names) (rigid_head c.in-Rigid.head) (c.is_stand_in.ensures ∙ c.if-is_stand_in.false)),
-  )
+  c.in_ok-list-in-Rigid.ensures.valid,
+  with-rigid c.args.heap.now c.args.depth (read c.args.heap.now c.args.put.index names) x c.args.form c.in-Rigid.head c.in-Rigid.args (all_read c.put_each.new.heap c.in_ok-list-in-Rigid.list) (read-built c.args.heap.now c.args.put.index names) c.requires.ready c.in-Rigid.is k (c.in_ok-list-in-Rigid.ensures.reads ∙ ap (λ (us : List TermId). map (fill (put_name c.args.depth (read c.args.heap.now c.args.put.index names))) (all_read c.args.heap.now us)) c.as_slice.ensures)
+      ∙ ap (λ z. apply_all z (all_read c.put_each.new.heap c.in_ok-list-in-Rigid.list)) (put-other c.args.depth (read c.args.heap.now c.args.put.index names) (rigid_head c.in-Rigid.head) (c.is_stand_in.ensures ∙ c.if-is_stand_in.false)),
+)
 
 pub returns-in_ok-list-in-Flex-clause-form : goal.returns-in_ok-list-in-Flex-clause-form
 returns-in_ok-list-in-Flex-clause-form c = λ x k.
@@ -61,8 +61,8 @@ returns-in_ok-r-in-Lam-clause-grows c = grows-trans c.args.heap.now c.put_name.n
 pub returns-in_ok-r-in-Redex-clause-form : goal.returns-in_ok-r-in-Redex-clause-form
 returns-in_ok-r-in-Redex-clause-form c = IfOk-weaker c.lam_before-in-Redex.result _ _
     (λ w f x k.
-        subst (λ u. IsHeadForm c.lam_before-in-Redex.new.heap c.args.depth u w)
-        (sym (with-redex c.args.heap.now c.put_each-in-Redex.new.heap c.put_name-in-Redex.new.heap c.args.depth x c.args.form c.in-Redex.t c.args.put c.in_ok-r-in-Redex.r c.in-Redex.args c.in_ok-list-in-Redex.list c.is_sound.ensures c.is_sound-in-Redex.ensures c.put_each-in-Redex.ensures.grows c.put_name-in-Redex.ensures.grows c.requires.put c.requires.ready c.in-Redex.is (c.in_ok-list-in-Redex.ensures.reads ∙ ap (λ (us : List TermId). map (fill (put_name c.args.depth (read c.args.heap.now c.args.put.index names))) (all_read c.args.heap.now us)) c.as_slice-in-Redex.ensures) c.in_ok-list-in-Redex.ensures.valid c.in_ok-r-in-Redex.ensures.reads k)) f)
+    subst (λ u. IsHeadForm c.lam_before-in-Redex.new.heap c.args.depth u w)
+    (sym (with-redex c.args.heap.now c.put_each-in-Redex.new.heap c.put_name-in-Redex.new.heap c.args.depth x c.args.form c.in-Redex.t c.args.put c.in_ok-r-in-Redex.r c.in-Redex.args c.in_ok-list-in-Redex.list c.is_sound.ensures c.is_sound-in-Redex.ensures c.put_each-in-Redex.ensures.grows c.put_name-in-Redex.ensures.grows c.requires.put c.requires.ready c.in-Redex.is (c.in_ok-list-in-Redex.ensures.reads ∙ ap (λ (us : List TermId). map (fill (put_name c.args.depth (read c.args.heap.now c.args.put.index names))) (all_read c.args.heap.now us)) c.as_slice-in-Redex.ensures) c.in_ok-list-in-Redex.ensures.valid c.in_ok-r-in-Redex.ensures.reads k)) f)
     c.lam_before-in-Redex.ensures.form
 
 pub returns-in_ok-r-in-Redex-clause-grows : goal.returns-in_ok-r-in-Redex-clause-grows
