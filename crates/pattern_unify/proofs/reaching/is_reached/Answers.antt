@@ -19,6 +19,9 @@ loop-v-init c =
 pub is_own-own-requires : goal.is_own-own-requires
 is_own-own-requires c = older-last (length c.args.heap.now.nodes) c.loop-v.work.items c.loop-v.node c.loop-v.invariant.there
 
+pub push_parts-requires : goal.push_parts-requires
+push_parts-requires c = older-last (length c.args.heap.now.nodes) c.loop-v.work.items c.loop-v.node c.loop-v.invariant.there
+
 pub loop-v-smaller : goal.loop-v-smaller
 loop-v-smaller c =
     subst (λ (ts : List TermId). total c.args.heap.now ts < total c.args.heap.now (c.loop-v.work.items ++ c.loop-v.node ∷ [])) c.in-Some.ensures.items
