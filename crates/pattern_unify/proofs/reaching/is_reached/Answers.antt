@@ -19,6 +19,9 @@ loop-v-init c =
 pub is_own-own-requires : goal.is_own-own-requires
 is_own-own-requires c = older-last (length c.args.heap.now.nodes) c.loop-v.work.items c.loop-v.node c.loop-v.invariant.there
 
+pub push_parts-requires : goal.push_parts-requires
+push_parts-requires c = older-last (length c.args.heap.now.nodes) c.loop-v.work.items c.loop-v.node c.loop-v.invariant.there
+
 pub loop-v-smaller : goal.loop-v-smaller
 loop-v-smaller c =
     subst (λ (ts : List TermId). total c.args.heap.now ts < total c.args.heap.now (c.loop-v.work.items ++ c.loop-v.node ∷ [])) c.in-Some.ensures.items
@@ -36,4 +39,4 @@ pub returns-in-None : goal.returns-in-None
 returns-in-None c =
     let none = empty-list c.push_parts.new.work.items (omega (arith, c.push_parts.new.work.ok, c.in-None.ensures.cases.0)) in
     λ e. c.loop-v.invariant.leads (turn-unreached c.args.heap.now c.is_sound.ensures c.args.v.index c.loop-v.work.items c.loop-v.node c.push_parts.new.work.items c.in_ok-push_parts.ensures
-        (c.is_own-own.ensures c.if-own.false) (subst (AllUnreached c.args.heap.now c.args.v.index) (sym none) tt))
+    (c.is_own-own.ensures c.if-own.false) (subst (AllUnreached c.args.heap.now c.args.v.index) (sym none) tt))
