@@ -1,7 +1,7 @@
 -- What a call may change, and undoing it.
-use Rattle.std.proofs.Common.{◌≡◌, ℕ, ◌≤◌, ◌+◌, ◌-◌, List, [], ◌∷◌, ◌++◌, map, reverse, length, drop, take, refl, sym, ap, ◌∙◌, arith, length-append, subst}
+use Rattle.std.proofs.Common.{◌≡◌, ℕ, ◌≤◌, ◌+◌, ◌-◌, List, [], ◌∷◌, ◌++◌, map, reverse, length, drop, take, refl, sym, ap, ◌∙◌, arith, length-append, length-drop, subst}
 use Rattle.std.proofs.Math.Seq.{drop-append-add}
-use Rattle.std.proofs.lemmas.List.{take-append-le, map-append, reverse-append, length-map, length-reverse, append_assoc, append-nil}
+use Rattle.std.proofs.lemmas.List.{take-append-le, take-take, take-append-drop, length-take-le, map-append, reverse-append, length-map, length-reverse, append_assoc, append-nil}
 use Rattle.level_terms.specs.declared.node.Node.{Node}
 use Rattle.level_terms.specs.declared.node.Change.{Change}
 use Rattle.level_terms.specs.declared.node.HeapMark.{HeapMark}
@@ -116,3 +116,31 @@ marks_can g noted s own =
         assigned = subst (λ z. AllAssigned (length g.nodes) (length g.depths) z.assigned) same s.assigned;
       };
     }
+
+-- the oldest ones of a list, of the oldest ones
+oldest-oldest : {A : Type 0} (a b : ℕ) (xs : List A) → a ≤ b → b ≤ length xs → drop (length (drop (length xs - b) xs) - a) (drop (length xs - b) xs) ≡ drop (length xs - a) xs
+oldest-oldest a b xs h k =
+    let parts = take-append-drop (length xs - b) xs in
+    let long = length-drop (length xs - b) xs in
+    sym (drop-past (take (length xs - b) xs) (drop (length xs - b) xs) xs a (sym parts) (omega (arith, long, h, k)))
+
+-- the earlier mark of two isn't past the later one
+mark-below : (a b : HeapMark) (g : Graph) → IsWithin b g → IsWithin a (undone b g) → (a.nodes ≤ b.nodes) × (a.variables ≤ b.variables) × (a.entries ≤ b.entries)
+mark-below a b g v w = (
+  omega (arith, w.nodes, v.nodes, length-drop (length g.nodes - b.nodes) g.nodes),
+  omega (arith, w.variables, v.variables, length-take-le b.variables g.depths v.variables),
+  omega (arith, w.entries, v.entries, length-drop (length g.assigned - b.entries) g.assigned),
+)
+
+pub earlier_within : (a b : HeapMark) (g : Graph) → IsWithin b g → IsWithin a (undone b g) → IsWithin a g
+earlier_within a b g v w =
+    let le = mark-below a b g v w in
+    record { nodes = omega (arith, le.0, v.nodes); variables = omega (arith, le.1, v.variables); entries = omega (arith, le.2, v.entries) }
+
+pub undo_twice : (a b : HeapMark) (g : Graph) → IsWithin b g → IsWithin a (undone b g) → undone a (undone b g) ≡ undone a g
+undo_twice a b g v w =
+    let le = mark-below a b g v w in
+    let nodes = oldest-oldest a.nodes b.nodes g.nodes le.0 v.nodes in
+    let depths = take-take a.variables b.variables g.depths le.1 in
+    let assigned = oldest-oldest a.entries b.entries g.assigned le.2 v.entries in
+    λ i. record { nodes = nodes i; depths = depths i; assigned = assigned i }

@@ -15,3 +15,5 @@ pub mod NodeLemmas
 pub mod ConstantLemmas
 pub mod TreeLemmas
 pub mod ValidLemmas
+pub mod ReadLemmas
+pub mod MakeLemmas

@@ -24,8 +24,8 @@ graph_of h = record {
 }
 
 -- the value that a variable's cell has
-abbrev pub value_of : List Cell → ℕ → Option ℕ
-value_of cells v = option_map (λ t. t.index) (option_flatten (option_map (λ c. c.value) (slice_get cells v)))
+abbrev pub cell_value : List Cell → ℕ → Option ℕ
+cell_value cells v = option_map (λ t. t.index) (option_flatten (option_map (λ c. c.value) (slice_get cells v)))
 
 -- 1 where the variable has no value
 abbrev pub free_count : Cell → ℕ
@@ -38,7 +38,7 @@ AllOnce (a ∷ older) = (value_in older a.variable ≡ None) × AllOnce older
 
 -- the cells have the values that were assigned, and there is room for a value of each variable
 pub record IsConsistent (h : Inside) : Type 0 where
-  pub values : (v : ℕ) → value_of h.cells.items v ≡ value_in (assigned_all h.bindings.items) v
+  pub values : (v : ℕ) → cell_value h.cells.items v ≡ value_in (assigned_all h.bindings.items) v
   pub count : vec_len h.bindings + sum_by free_count h.cells.items ≡ vec_len h.cells
   pub room : vec_len h.cells ≤ vec_capacity h.bindings
   pub few : vec_len h.cells < 2 ^ 32

@@ -92,3 +92,11 @@ MarksCanBeUndoneTo = (g : Graph) (noted : List Change) → IsSound g → IsTrail
 -- and leaves the heap
 abbrev pub UndoToNowIsNothing : Type 0
 UndoToNowIsNothing = (g : Graph) → undone (mark_of g) g ≡ g
+
+-- going back to a mark, and then to an earlier one, is going back to the earlier one
+abbrev pub UndoTwiceIsUndo : Type 0
+UndoTwiceIsUndo = (a b : HeapMark) (g : Graph) → IsWithin b g → IsWithin a (undone b g) → undone a (undone b g) ≡ undone a g
+
+-- and the earlier one isn't past the heap
+abbrev pub EarlierIsWithin : Type 0
+EarlierIsWithin = (a b : HeapMark) (g : Graph) → IsWithin b g → IsWithin a (undone b g) → IsWithin a g

@@ -8,3 +8,4 @@ pub mod Growth
 pub mod Undo
 pub mod HeapView
 pub mod Laws
+pub mod Values

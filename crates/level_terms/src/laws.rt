@@ -1,6 +1,6 @@
 //! What holds of heaps and their readings. Each function does nothing: its contract is the law.
 
-ghost use Rattle.level_terms.specs.Laws.{NodesRead, ReadingsAreLocal, MakersKeepReadings, GrowthKeepsReadings, NodesAreValid, ValidDeeper, GrowthKeepsValid, AssignmentInstantiates, GrowthIsReflexive, GrowthIsTransitive, GrowthWithoutNotes, GrowthKeepsTrail, GrowthKeepsMarks, UndoIgnoresGrowth, UndoIgnoresNotes, MarksCanBeUndoneTo, UndoToNowIsNothing};
+ghost use Rattle.level_terms.specs.Laws.{NodesRead, ReadingsAreLocal, MakersKeepReadings, GrowthKeepsReadings, NodesAreValid, ValidDeeper, GrowthKeepsValid, AssignmentInstantiates, GrowthIsReflexive, GrowthIsTransitive, GrowthWithoutNotes, GrowthKeepsTrail, GrowthKeepsMarks, UndoIgnoresGrowth, UndoIgnoresNotes, MarksCanBeUndoneTo, UndoToNowIsNothing, UndoTwiceIsUndo, EarlierIsWithin};
 
 /// A node reads as its parts make it, and an assigned variable as its value. What a node that is
 /// valid at a depth reads as hangs on the levels below the depth alone.
@@ -43,4 +43,10 @@ pub fn law_undo()
     ensures trail { UndoIgnoresNotes }
     ensures begins { MarksCanBeUndoneTo }
     ensures now { UndoToNowIsNothing }
+{}
+
+/// Going back to a mark, and then to an earlier one, is going back to the earlier one.
+pub fn law_undo_twice()
+    ensures heap { UndoTwiceIsUndo }
+    ensures within { EarlierIsWithin }
 {}

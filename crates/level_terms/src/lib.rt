@@ -11,9 +11,11 @@
 
 mod heap;
 pub mod laws;
+mod making;
 mod node;
 #[cfg(test)]
 mod tests;
 
 pub use heap::Heap;
+pub use making::{applied, made_app, made_lam, made_level, made_var};
 pub use node::{Change, HeapMark, Node, TermId, TermIds, VarId};

@@ -4,8 +4,8 @@ use Rattle.std.proofs.lemmas.List.Sums.{sum_by-set}
 use Rattle.level_terms.specs.Graph.{value_in}
 use Rattle.level_terms.specs.Valid.{IsValid}
 use Rattle.level_terms.specs.Reached.{IsUnreached}
-use Rattle.level_terms.specs.HeapView.{graph_of, value_of, free_count, assigned_by, assigned_all, AllOnce}
-use Rattle.level_terms.proofs.CellLemmas.{value_of-set, depths-set, free_at}
+use Rattle.level_terms.specs.HeapView.{graph_of, cell_value, free_count, assigned_by, assigned_all, AllOnce}
+use Rattle.level_terms.proofs.CellLemmas.{cell_value-set, depths-set, free_at}
 use Rattle.level_terms.proofs.GrowthLemmas.{grows-assigned}
 use Rattle.level_terms.proofs.SoundLemmas.{sound-assigned}
 use Rattle.level_terms.proofs.heap.Heap.assign.Goals as goal
@@ -14,7 +14,7 @@ pub push_reserved-requires : goal.push_reserved-requires
 push_reserved-requires c =
     let cells = c.self.inside.cells.items in
     let known : c.args.v.index < length cells = omega (arith, c.requires.variable, ap (λ g. length g.depths) c.self.view_is, length-map cells (λ x. x.depth)) in
-    let free : value_of cells c.args.v.index ≡ None = c.self.invariant.consistent.values c.args.v.index ∙ ap (λ g. value_in g.assigned c.args.v.index) c.self.view_is ∙ c.requires.free in
+    let free : cell_value cells c.args.v.index ≡ None = c.self.invariant.consistent.values c.args.v.index ∙ ap (λ g. value_in g.assigned c.args.v.index) c.self.view_is ∙ c.requires.free in
     let one = free_at cells c.args.v.index c.index_mut.result.now known free in
     let moved = sum_by-set free_count cells c.args.v.index (record { depth = 0; value = Some c.args.t }) c.index_mut.result.now known in
     omega (arith, one, moved, c.self.invariant.consistent.count, c.self.invariant.consistent.room)
@@ -23,13 +23,13 @@ pub invariant_of-self : goal.invariant_of-self
 invariant_of-self c =
     let cells = c.self.inside.cells.items in
     let known : c.args.v.index < length cells = omega (arith, c.requires.variable, ap (λ g. length g.depths) c.self.view_is, length-map cells (λ x. x.depth)) in
-    let free : value_of cells c.args.v.index ≡ None = c.self.invariant.consistent.values c.args.v.index ∙ ap (λ g. value_in g.assigned c.args.v.index) c.self.view_is ∙ c.requires.free in
+    let free : cell_value cells c.args.v.index ≡ None = c.self.invariant.consistent.values c.args.v.index ∙ ap (λ g. value_in g.assigned c.args.v.index) c.self.view_is ∙ c.requires.free in
     let depths = depths-set cells c.args.v.index (record { depth = c.index_mut.result.now.depth; value = Some c.args.t }) c.index_mut.result.now known (ap (λ x. x.depth) c.index_mut.ensures.value) in
     let newest = ap assigned_all c.push_reserved.ensures.items ∙ ap reverse (map-append assigned_by c.self.inside.bindings.items _) ∙ reverse-append (map assigned_by c.self.inside.bindings.items) _ in
     record {
       consistent = record {
         values = λ w.
-            value_of-set cells c.args.v.index (record { depth = c.index_mut.result.now.depth; value = Some c.args.t }) c.args.t w known refl
+            cell_value-set cells c.args.v.index (record { depth = c.index_mut.result.now.depth; value = Some c.args.t }) c.args.t w known refl
             ∙ ap (cond (nat_eq c.args.v.index w) (Some c.args.t.index)) (c.self.invariant.consistent.values w)
             ∙ ap (λ bs. value_in bs w) (sym newest);
         count =

@@ -2,8 +2,8 @@ use Rattle.std.proofs.Common.{◌≡◌, ◌++◌, [], ◌∷◌, None, refl, �
 use Rattle.std.proofs.lemmas.List.{map-append}
 use Rattle.std.proofs.lemmas.List.Sums.{sum_by-append}
 use Rattle.level_terms.specs.Graph.{value_in}
-use Rattle.level_terms.specs.HeapView.{graph_of, free_count, value_of, assigned_all, AllOnce}
-use Rattle.level_terms.proofs.CellLemmas.{value_of-push}
+use Rattle.level_terms.specs.HeapView.{graph_of, free_count, cell_value, assigned_all, AllOnce}
+use Rattle.level_terms.proofs.CellLemmas.{cell_value-push}
 use Rattle.level_terms.proofs.GrowthLemmas.{grows-refl, grows-variable, grows-same}
 use Rattle.level_terms.proofs.SoundLemmas.{sound-variable}
 use Rattle.level_terms.proofs.heap.Heap.fresh_var.Goals as goal
@@ -25,7 +25,7 @@ invariant_of-self-2 c =
     record {
       consistent = record {
         values = λ v.
-            ap (λ xs. value_of xs v) cells ∙ value_of-push c.self.inside.cells.items _ v refl ∙ c.self.invariant.consistent.values v
+            ap (λ xs. cell_value xs v) cells ∙ cell_value-push c.self.inside.cells.items _ v refl ∙ c.self.invariant.consistent.values v
             ∙ ap (λ bs. value_in (assigned_all bs) v) (sym c.in_ok-reserve-2.ensures.items);
         count =
             let sums = ap (sum_by free_count) cells ∙ sum_by-append free_count c.self.inside.cells.items _ in

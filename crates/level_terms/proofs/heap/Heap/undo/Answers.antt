@@ -4,9 +4,9 @@ use Rattle.std.proofs.lemmas.List.Sums.{sum_by-set}
 use Rattle.level_terms.specs.Graph.{value_in}
 use Rattle.level_terms.specs.Sound.{IsSound, AllAssigned}
 use Rattle.level_terms.specs.Growth.{changes_of, change_of}
-use Rattle.level_terms.specs.HeapView.{value_of, free_count, assigned_by, assigned_all, AllOnce}
+use Rattle.level_terms.specs.HeapView.{cell_value, free_count, assigned_by, assigned_all, AllOnce}
 use Rattle.level_terms.proofs.CellLemmas.{depths-set}
-use Rattle.level_terms.proofs.UndoLemmas.{value_of-some, value_of-unset, newest, popped, values_after, held_at, drop_next, count-take, reverse-take, value_in-past}
+use Rattle.level_terms.proofs.UndoLemmas.{cell_value-some, cell_value-unset, newest, popped, values_after, held_at, drop_next, count-take, reverse-take, value_in-past}
 use Rattle.level_terms.proofs.TrailLemmas.{taken, taken_spare, newest_change, changes-drop}
 use Rattle.level_terms.proofs.GrowthLemmas.{changes-length}
 use Rattle.level_terms.proofs.SoundLemmas.{sound-undone}
@@ -17,8 +17,8 @@ index_mut-requires c =
     let cells = c.loop-self.self-inside.cells.items in
     let v : ℕ = c.in-Some.last.variable.index in
     let order = ap assigned_all c.in-Some.ensures.items ∙ newest c.pop.new.self.items c.in-Some.last in
-    let has : value_of cells v ≡ Some c.in-Some.last.value.index = c.loop-self.invariant.consistent.values v ∙ ap (λ bs. value_in bs v) order ∙ ap (λ b. cond b (Some c.in-Some.last.value.index) (value_in (assigned_all c.pop.new.self.items) v)) (eq-eqb v v refl) in
-    let within = value_of-some cells v c.in-Some.last.value.index has in
+    let has : cell_value cells v ≡ Some c.in-Some.last.value.index = c.loop-self.invariant.consistent.values v ∙ ap (λ bs. value_in bs v) order ∙ ap (λ b. cond b (Some c.in-Some.last.value.index) (value_in (assigned_all c.pop.new.self.items) v)) (eq-eqb v v refl) in
+    let within = cell_value-some cells v c.in-Some.last.value.index has in
     omega (arith, within, c.loop-self.self-inside.cells.ok)
 
 pub loop-self-preserved-in-Some : goal.loop-self-preserved-in-Some
@@ -27,16 +27,16 @@ loop-self-preserved-in-Some c =
     let v : ℕ = c.in-Some.last.variable.index in
     let older = assigned_all c.pop.new.self.items in
     let order = ap assigned_all c.in-Some.ensures.items ∙ newest c.pop.new.self.items c.in-Some.last in
-    let has : value_of cells v ≡ Some c.in-Some.last.value.index = c.loop-self.invariant.consistent.values v ∙ ap (λ bs. value_in bs v) order ∙ ap (λ b. cond b (Some c.in-Some.last.value.index) (value_in (assigned_all c.pop.new.self.items) v)) (eq-eqb v v refl) in
-    let within = value_of-some cells v c.in-Some.last.value.index has in
+    let has : cell_value cells v ≡ Some c.in-Some.last.value.index = c.loop-self.invariant.consistent.values v ∙ ap (λ bs. value_in bs v) order ∙ ap (λ b. cond b (Some c.in-Some.last.value.index) (value_in (assigned_all c.pop.new.self.items) v)) (eq-eqb v v refl) in
+    let within = cell_value-some cells v c.in-Some.last.value.index has in
     let once = subst AllOnce order c.loop-self.invariant.consistent.once in
     let fewer = c.in-Some.ensures.len in
     let noted = c.loop-self.invariant.own ∙ ap changes_of order ∙ newest_change (assigned_by c.in-Some.last) older in
     let past : c.args.m.entries ≤ length (changes_of older) = omega (arith, fewer, c.loop-self-test.true, c.len.ensures, changes-length older, length-reverse (map assigned_by c.pop.new.self.items), length-map c.pop.new.self.items assigned_by) in
     record {
       consistent = record {
-        values = λ w. value_of-unset cells v (record { depth = c.index_mut.result.now.depth; value = None }) w refl
-            ∙ popped (assigned_by c.in-Some.last) (assigned_all c.pop.new.self.items) (value_of cells w) w once.0 (c.loop-self.invariant.consistent.values w ∙ ap (λ bs. value_in bs w) order);
+        values = λ w. cell_value-unset cells v (record { depth = c.index_mut.result.now.depth; value = None }) w refl
+            ∙ popped (assigned_by c.in-Some.last) (assigned_all c.pop.new.self.items) (cell_value cells w) w once.0 (c.loop-self.invariant.consistent.values w ∙ ap (λ bs. value_in bs w) order);
         count =
             let held = held_at cells v c.in-Some.last.value.index c.index_mut.result.now has in
             let moved = sum_by-set free_count cells v (record { depth = c.index_mut.result.now.depth; value = None }) c.index_mut.result.now within in
@@ -82,7 +82,7 @@ invariant_of-self c =
     let le : c.args.m.variables ≤ length cells = omega (arith, c.requires.within.variables, ap length c.loop-self.invariant.depths, length-map cells (λ x. x.depth)) in
     record {
       consistent = record {
-        values = λ w. ap (λ cs. value_of cs w) c.truncate-2.ensures.items ∙ values_after c.args.m.nodes cells (assigned_all c.loop-self.self-inside.bindings.items) c.args.m.variables c.loop-self.invariant.consistent.values below w;
+        values = λ w. ap (λ cs. cell_value cs w) c.truncate-2.ensures.items ∙ values_after c.args.m.nodes cells (assigned_all c.loop-self.self-inside.bindings.items) c.args.m.variables c.loop-self.invariant.consistent.values below w;
         count =
             let taken = count-take cells c.args.m.variables le (λ w h. c.loop-self.invariant.consistent.values w ∙ value_in-past c.args.m.nodes (assigned_all c.loop-self.self-inside.bindings.items) c.args.m.variables w below h) in
             let sums = ap (sum_by free_count) c.truncate-2.ensures.items in

@@ -2,7 +2,7 @@ use Rattle.std.proofs.Common.{◌<◌, length, option_map, ◌∙◌, ap, sym, a
 use Rattle.std.proofs.lemmas.List.{length-map}
 use Rattle.level_terms.specs.Graph.{value_in}
 use Rattle.level_terms.specs.Sound.{IsSound}
-use Rattle.level_terms.proofs.CellLemmas.{value_of-get}
+use Rattle.level_terms.proofs.CellLemmas.{cell_value-get}
 use Rattle.level_terms.proofs.ValidLemmas.{some_valid}
 use Rattle.level_terms.proofs.heap.Heap.value.Goals as goal
 
@@ -11,7 +11,7 @@ returns-clause-value c =
     let cells = c.self.inside.cells.items in
     let known : c.args.v.index < length cells = omega (arith, c.requires, ap (λ g. length g.depths) c.self.view_is, length-map cells (λ x. x.depth)) in
     ap (λ x. option_map (λ t. t.index) x.value) c.index.ensures
-    ∙ sym (value_of-get c.self.inside.cells.items c.args.v.index c.index.result.now known)
+    ∙ sym (cell_value-get c.self.inside.cells.items c.args.v.index c.index.result.now known)
     ∙ c.self.invariant.consistent.values c.args.v.index
     ∙ ap (λ g. value_in g.assigned c.args.v.index) c.self.view_is
 
