@@ -57,7 +57,7 @@ clause-fit : (c : ClauseTree) → lacks_constant c.head ≡ false → IsClauseFo
 clause-fit c e w = record { headed = e; head = w.head.within; body = option-within c.vars c.body w.body }
 
 clauses-fit : (cs : List ClauseTree) → AllHeaded cs → All IsClauseFormed cs → All IsClauseFit cs
-clauses-fit [] h w = λ k u l. absurd (let z : k < 0 = l in omega (arith, z))
+clauses-fit [] h w k u l = absurd (let z : k < 0 = l in omega (arith, z))
 clauses-fit (c ∷ cs) h w zero u l = clause-fit c h.0 (w zero u l)
 clauses-fit (c ∷ cs) h w (suc k) u l = clauses-fit cs h.1 (λ j v m. w (suc j) v (let z : j < length cs = m in omega (arith, z))) k u (let z : suc k < suc (length cs) = l in omega (arith, z))
 

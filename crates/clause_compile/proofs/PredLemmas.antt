@@ -1,5 +1,5 @@
 -- The predicates of a program, by its declarations and its clauses.
-use Rattle.std.proofs.Common.{◌≡◌, ◌∙◌, ℕ, zero, suc, ◌<◌, Bool, true, false, cond, nat_eq, List, [], ◌∷◌, ◌++◌, map, length, replicate, All, Option, Some, None, option_map, option_to_list, refl, ap, sym, subst, arith, ◌+◌, get_or, take}
+use Rattle.std.proofs.Common.{◌≡◌, ◌∙◌, ℕ, zero, suc, ◌<◌, Bool, true, false, cond, nat_eq, List, [], ◌∷◌, ◌++◌, map, length, replicate, All, Option, Some, None, is_some, option_map, option_to_list, refl, ap, sym, subst, arith, ◌+◌, get_or, take}
 use Rattle.std.proofs.lemmas.Bool.Decides.{nat_tests}
 use Rattle.std.proofs.lemmas.List.{length-map, take_more}
 use Rattle.std.specs.Option.{option_map_or}
@@ -155,3 +155,21 @@ plain-body c = go c.body
     go : (o : Option Tree) → option_to_list (option_map (term_of 0) o) ≡ map (term_of 0) (option_to_list o)
     go None = refl
     go (Some t) = refl
+
+-- no predicate
+pub none-of : (o : Option Pred) → is_some o ≡ false → o ≡ None
+none-of None e = refl
+none-of (Some p) e = absurd (let k : true ≡ false = e in cc)
+
+-- the predicate of a declaration was put last
+pub line-made : (d : PredLine) (xs : List Bool) (old new : List (ℕ × Pred)) → xs ≡ d.inputs → pred_at d.name.0 old ≡ None → new ≡ with_pred d.name.0 (record { declared = true; inputs = xs }) old → MadeOf old new (λ s. cond (nat_eq s d.name.0) (Some (declared_as d)) None)
+line-made d xs old new e k is =
+    let same : new ≡ with_pred d.name.0 (declared_as d) old = is ∙ ap (λ (ys : List Bool). with_pred d.name.0 (record { declared = true; inputs = ys }) old) e in
+    subst (λ (ps : List (ℕ × Pred)). MadeOf old ps (λ s. cond (nat_eq s d.name.0) (Some (declared_as d)) None)) (sym same) (made-new d.name.0 (declared_as d) old k)
+
+-- that of a clause
+pub clause-made : (c : ClauseTree) (n : ℕ) (xs : List Bool) (old new : List (ℕ × Pred)) → constant_of c.head ≡ Some n → xs ≡ replicate (length (args_of c.head)) false → pred_at n old ≡ None → new ≡ with_pred n (record { declared = false; inputs = xs }) old →
+    MadeOf old new (λ s. cond (is_headed s c) (Some (undeclared_as c)) None)
+clause-made c n xs old new h e k is =
+    let same : new ≡ with_pred n (undeclared_as c) old = is ∙ ap (λ (ys : List Bool). with_pred n (record { declared = false; inputs = ys }) old) e in
+    made-headed old new c n h (subst (λ (ps : List (ℕ × Pred)). MadeOf old ps (λ s. cond (nat_eq s n) (Some (undeclared_as c)) None)) (sym same) (made-new n (undeclared_as c) old k))

@@ -1,6 +1,6 @@
 //! Compiles programs.
 
-ghost use Rattle.std.specs.Prelude.{◌≡◌, ℕ, [], List, length, map, cond, nat_eq, false, All, Some, None, IfOk, OnOk};
+ghost use Rattle.std.specs.Prelude.{◌≡◌, ℕ, [], List, length, map, cond, nat_eq, false, All, Some, None, is_some, IfOk, OnOk};
 ghost use Rattle.ref_terms.specs.terms.Term.{Con};
 ghost use Rattle.ref_terms.specs.unification.Spine as spine;
 ghost use Rattle.ref_terms.specs.search.Front.{term_of};
@@ -9,6 +9,7 @@ ghost use Rattle.lp_resolve.specs.Gathered.{declared_as, undeclared_as};
 ghost use Rattle.lp_resolve.specs.Heads.{args_of, constant_of};
 ghost use Rattle.lp_resolve.specs.Laws.{declared_first, headed_first, is_headed};
 ghost use Rattle.lp_resolve.specs.Plain.{plain_clause, plain_program};
+ghost use Rattle.lp_resolve.specs.Preds.{pred_at};
 ghost use Rattle.lp_resolve.specs.StaticRules.{lacks_constant};
 ghost use Rattle.lp_resolve.specs.Trees.{IsWithin, as_term};
 ghost use Rattle.clause_compile.specs.Programs.{IsCode};
@@ -58,11 +59,18 @@ pub(crate) fn atom_of(tree: &Tree) -> Atom<'_>
     Atom { constant, args }
 }
 
+/// Whether a symbol is a predicate.
+fn has_pred(preds: &Preds, name: Sym) -> bool
+    ensures { result ≡ is_some (pred_at name.0 preds.now) }
+{
+    preds.get(name).is_some()
+}
+
 /// Makes the predicate of a declaration, where its symbol has none yet.
 fn put_line(alloc: Global, preds: &mut Preds, line: &PredLine) -> Result<(), AllocError>
     ensures { OnOk result (MadeOf preds.old preds.new (λ s. cond (nat_eq s line.now.name.0) (Some (declared_as line.now)) None)) }
 {
-    if preds.get(line.name).is_some() {
+    if has_pred(preds, line.name) {
         return Ok(());
     }
     let inputs = Sequence::from_vec(Vec::from_slice(alloc, line.inputs.as_slice())?);
@@ -88,7 +96,7 @@ fn put_clause(alloc: Global, preds: &mut Preds, clause: &ClauseTree) -> Result<(
     let Some(name) = constant_of(&clause.head) else {
         return Ok(());
     };
-    if preds.get(name).is_some() {
+    if has_pred(preds, name) {
         return Ok(());
     }
     let inputs = Sequence::from_vec(vec![in alloc; false; arity_of(&clause.head)]?);

@@ -1,6 +1,6 @@
 //! Instances of queries.
 
-ghost use Rattle.std.specs.Prelude.{◌≡◌, [], length, IfOk};
+ghost use Rattle.std.specs.Prelude.{◌≡◌, ◌<◌, [], length, get_or, IfOk};
 ghost use Rattle.level_terms.specs.Growth.{Grows};
 ghost use Rattle.lp_resolve.specs.Plain.{plain_query};
 ghost use Rattle.lp_resolve.specs.Trees.{IsWithin, as_term};
@@ -18,6 +18,14 @@ pub struct QueryInstance {
     /// The nodes of its variables, whose numbers are those of the query.
     pub variables: Vec<TermId>,
     pub goal: TermId,
+}
+
+/// The first of nodes.
+fn first_of(terms: &[TermId]) -> TermId
+    requires { 0 < length terms.now }
+    ensures { result ≡ get_or terms.now 0 (record { index = 0 }) }
+{
+    terms[0]
 }
 
 /// Makes a query's variables at depth 0, and its goal over them. The heap has no variable yet, so that
@@ -43,6 +51,6 @@ pub fn query_of(
     let mut room = Room::new(alloc);
     let mut terms = Vec::new(alloc);
     make_terms(alloc, heap, &skeleton, 0, variables.as_slice(), &mut room, &mut terms)?;
-    let goal = terms[0];
+    let goal = first_of(terms.as_slice());
     Ok(QueryInstance { variables, goal })
 }

@@ -1,5 +1,6 @@
 use Rattle.std.proofs.Common.{◌≡◌, ◌∙◌, [], List, map, All, ap, sym, subst, refl, length}
 use Rattle.level_terms.specs.declared.node.Node.{Node}
+use Rattle.level_terms.proofs.GrowthLemmas.{grows-refl}
 use Rattle.lp_resolve.specs.declared.program.ClauseTree.{ClauseTree}
 use Rattle.lp_resolve.specs.declared.program.PredLine.{PredLine}
 use Rattle.lp_resolve.specs.declared.program.Program.{Program}
@@ -14,14 +15,14 @@ use Rattle.clause_compile.proofs.program.compile.Goals as goal
 
 pub clause_codes-requires-clause-fit : goal.clause_codes-requires-clause-fit
 clause_codes-requires-clause-fit c =
-    let same = c.as_slice-3.ensures ∙ ap (λ (p : Program). p.clauses) c.program.ensures.program in
+    let same = c.as_slice-3.ensures ∙ ap (λ (p : Program). p.clauses) c.program-program.ensures.program in
     subst (λ (ks : List ClauseTree). All IsClauseFit ks) (sym same) c.clauses_fit.ensures
 
 pub returns-clause-code : goal.returns-clause-code
 returns-clause-code c = λ table.
-    let same = c.as_slice-3.ensures ∙ ap (λ (p : Program). p.clauses) c.program.ensures.program in
-    let lines = c.as_slice.ensures ∙ ap (λ (p : Program). p.decls) c.program.ensures.program in
-    let heads = c.as_slice-2.ensures ∙ ap (λ (p : Program). p.clauses) c.program.ensures.program in
+    let same = c.as_slice-3.ensures ∙ ap (λ (p : Program). p.clauses) c.program-program.ensures.program in
+    let lines = c.as_slice.ensures ∙ ap (λ (p : Program). p.decls) c.program-program.ensures.program in
+    let heads = c.as_slice-2.ensures ∙ ap (λ (p : Program). p.clauses) c.program-program.ensures.program in
     record {
       nodes = c.clause_codes.new.heap.nodes;
       shared = record {
@@ -36,3 +37,9 @@ returns-clause-code c = λ table.
           (subst (λ (ks : List ClauseTree). MadeOf c.put_lines.new.preds c.put_clauses.new.preds (λ t. headed_first t ks)) heads c.in_ok-put_clauses.ensures)
           (headed-fit c.args.checked.now.clauses c.clauses_fit.ensures);
     }
+
+pub returns-in_err-put_lines-clause-grows : goal.returns-in_err-put_lines-clause-grows
+returns-in_err-put_lines-clause-grows c = grows-refl c.args.heap.now []
+
+pub returns-in_err-put_clauses-clause-grows : goal.returns-in_err-put_clauses-clause-grows
+returns-in_err-put_clauses-clause-grows c = grows-refl c.args.heap.now []
