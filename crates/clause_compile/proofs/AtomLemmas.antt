@@ -1,12 +1,12 @@
 -- Trees that are headed by a constant.
-use Rattle.std.proofs.Common.{◌≡◌, ◌∙◌, ℕ, zero, suc, ◌<◌, Bool, true, false, cond, nat_eq, List, [], ◌∷◌, ◌++◌, map, length, All, Option, Some, None, option_and_then, refl, ap, ap₂, sym, subst, append_assoc, arith, append-nil}
+use Rattle.std.proofs.Common.{◌≡◌, ◌∙◌, ℕ, true, false, List, [], ◌∷◌, ◌++◌, map, Option, Some, None, option_and_then, refl, ap, sym, subst, append_assoc, append-nil}
 use Rattle.std.specs.Option.{option_map_or}
 use Rattle.ref_terms.specs.terms.Term as term
 use Rattle.ref_terms.specs.terms.Term.{Term}
 use Rattle.ref_terms.specs.terms.Apply.{apply}
 use Rattle.ref_terms.specs.unification.Spine as spine
 use Rattle.ref_terms.specs.unification.Spine.{apply_all}
-use Rattle.ref_terms.specs.search.Front.{term_of, term_of_head}
+use Rattle.ref_terms.specs.search.Front.{term_of}
 use Rattle.ref_terms.specs.declared.sym.Sym.{Sym}
 use Rattle.ref_terms.specs.declared.tree.Tree.{Tree, out-Tree, roll-Tree, roll-out-Tree}
 use Rattle.ref_terms.specs.declared.tree.Tree.TheVariants.{Ap, rolls-Ap}

@@ -1,18 +1,17 @@
 -- Terms of trees are built, so that they are their own instance at no names.
-use Rattle.std.proofs.Common.{◌≡◌, ◌∙◌, ℕ, zero, suc, ◌+◌, List, [], ◌∷◌, map, refl, ap, sym, subst, arith}
+use Rattle.std.proofs.Common.{◌≡◌, ◌∙◌, ◌+◌, List, [], ◌∷◌, map, refl, ap, sym, subst, arith}
 use mathlib.Core.Path.{fun_ext}
 use Rattle.ref_terms.specs.terms.Term as term
 use Rattle.ref_terms.specs.terms.Term.{Term}
 use Rattle.ref_terms.specs.terms.Apply.{apply, fill}
 use Rattle.ref_terms.specs.terms.Built.{IsBuilt}
-use Rattle.ref_terms.specs.terms.Eta.{lam}
 use Rattle.ref_terms.specs.unification.Spine.{apply_all}
 use Rattle.ref_terms.specs.lemmas.FillLemmas.{built-apply, built-lam}
 use Rattle.ref_terms.specs.lemmas.OccursLemmas.{fill_at}
 use Rattle.ref_terms.specs.declared.tree.Tree.{Tree, ind-Tree, roll-Tree, map-Tree}
-use Rattle.ref_terms.specs.declared.tree.Tree.TheVariants.{Lam, Ap, rolls-Lam, rolls-Ap}
+use Rattle.ref_terms.specs.declared.tree.Tree.TheVariants.{rolls-Lam, rolls-Ap}
 use Rattle.ref_terms.specs.declared.tree.Head.{Head, roll-Head, map-Head}
-use Rattle.ref_terms.specs.declared.tree.Head.TheVariants.{Con, Int, Str, Bound, ClauseVar, Stuck, rolls-Con, rolls-Int, rolls-Str, rolls-Bound, rolls-ClauseVar, rolls-Stuck}
+use Rattle.ref_terms.specs.declared.tree.Head.TheVariants.{rolls-Con, rolls-Int, rolls-Str, rolls-Bound, rolls-ClauseVar, rolls-Stuck}
 use Rattle.ref_terms.specs.declared.tree.Head.TheOpen.{Head-F, Tree-F}
 use Rattle.ref_terms.specs.search.Front.{term_of, term_of_head}
 use Rattle.ref_terms.specs.search.Instance.{fresh_for_variable}

@@ -1,5 +1,5 @@
 -- The code of clauses.
-use Rattle.std.proofs.Common.{◌≡◌, ℕ, zero, suc, ◌<◌, ◌≤◌, arith, get_or, Option, List, [], ◌∷◌, ◌++◌, length, refl, ap, sym, subst, slice_get, Some, None, option_to_list}
+use Rattle.std.proofs.Common.{◌≡◌, ℕ, zero, suc, ◌<◌, ◌≤◌, arith, get_or, Option, List, [], ◌∷◌, ◌++◌, length, refl, ap, subst, slice_get, Some, None, option_to_list}
 use Rattle.ref_terms.specs.terms.Term.{Term}
 use Rattle.ref_terms.specs.unification.Spine.{args_of}
 use Rattle.ref_terms.specs.search.Program.{Clause}

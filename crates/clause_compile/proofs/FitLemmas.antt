@@ -1,5 +1,5 @@
 -- What a checked program is: what the static rules leave of its clauses.
-use Rattle.std.proofs.Common.{◌≡◌, ◌∙◌, ◌↔◌, ℕ, zero, suc, ◌<◌, Bool, true, false, cond, List, [], ◌∷◌, ◌++◌, map, length, get_or, All, Option, Some, None, IfSome, refl, ap, sym, subst, arith}
+use Rattle.std.proofs.Common.{◌≡◌, ℕ, zero, suc, ◌<◌, Bool, true, false, cond, List, [], ◌∷◌, ◌++◌, map, length, All, Option, Some, None, IfSome, refl, arith}
 use Rattle.std.specs.List.{flat_map}
 use Rattle.lp_parser.specs.declared.ast.Place.{Place}
 use Rattle.lp_resolve.specs.declared.program.Program.{Program}
@@ -8,9 +8,9 @@ use Rattle.lp_resolve.specs.declared.program.Pred.{Pred}
 use Rattle.lp_resolve.specs.declared.static_rule.StaticRule.{StaticRule}
 use Rattle.lp_resolve.specs.declared.static_rule.StaticRule.TheVariants.{S1, S2, S3, S4, S5}
 use Rattle.ref_terms.specs.declared.tree.Tree.{Tree}
-use Rattle.lp_resolve.specs.StaticRules.{Breach, PlacedHead, breaches, first_breach, breaches_at, redeclared, line_breaches, head_breaches, rule_breaches, placed_heads, clause_head, rule_heads, lacks_constant, has_other_arity, unusable_variables, has_reserved_head}
+use Rattle.lp_resolve.specs.StaticRules.{PlacedHead, first_breach, breaches_at, redeclared, line_breaches, head_breaches, rule_breaches, placed_heads, clause_head, rule_heads, lacks_constant, has_other_arity, unusable_variables, has_reserved_head}
 use Rattle.lp_resolve.specs.Laws.{NoneIsBroken}
-use Rattle.lp_resolve.specs.Trees.{IsFormed, as_term, IsWithin}
+use Rattle.lp_resolve.specs.Trees.{as_term, IsWithin}
 use Rattle.lp_resolve.specs.WellFormed.{IsWellFormed, IsClauseFormed, IsFormedOver}
 use Rattle.clause_compile.specs.inside.Fit.{AllHeaded, IsClauseFit}
 

@@ -1,9 +1,8 @@
 -- The predicates of a program, by its declarations and its clauses.
-use Rattle.std.proofs.Common.{◌≡◌, ◌∙◌, ℕ, zero, suc, ◌<◌, Bool, true, false, cond, nat_eq, List, [], ◌∷◌, ◌++◌, map, length, replicate, All, Option, Some, None, is_some, option_map, option_to_list, refl, ap, sym, subst, arith, ◌+◌, get_or, take}
+use Rattle.std.proofs.Common.{◌≡◌, ◌∙◌, ℕ, ◌<◌, Bool, true, false, cond, nat_eq, List, [], ◌∷◌, ◌++◌, map, length, replicate, Option, Some, None, is_some, option_map, option_to_list, refl, ap, sym, subst, arith, ◌+◌, get_or, take}
 use Rattle.std.proofs.lemmas.Bool.Decides.{nat_tests}
 use Rattle.std.proofs.lemmas.List.{length-map, take_more}
 use Rattle.std.specs.Option.{option_map_or}
-use Rattle.ref_terms.specs.terms.Term as term
 use Rattle.ref_terms.specs.unification.Spine as spine
 use Rattle.ref_terms.specs.search.Front.{term_of}
 use Rattle.ref_terms.specs.search.Program as plain

@@ -1,11 +1,9 @@
 -- Queries in the heap.
-use Rattle.std.proofs.Common.{◌≡◌, ◌∙◌, ℕ, zero, suc, ◌<◌, List, [], ◌∷◌, map, length, get_or, refl, ap, sym, subst, arith}
+use Rattle.std.proofs.Common.{◌≡◌, ◌∙◌, ℕ, ◌<◌, List, [], ◌∷◌, length, get_or, refl, ap, subst, arith}
 use Rattle.ref_terms.specs.terms.Term.{Term}
-use Rattle.ref_terms.specs.terms.Apply.{fill}
 use Rattle.ref_terms.specs.search.Front.{term_of}
 use Rattle.ref_terms.specs.search.Instance.{fresh_for_variable}
 use Rattle.ref_terms.specs.declared.tree.Tree.{Tree}
-use Rattle.level_terms.specs.declared.node.Node.{Node}
 use Rattle.level_terms.specs.declared.node.TermId.{TermId}
 use Rattle.level_terms.specs.Graph.{Graph}
 use Rattle.level_terms.specs.Growth.{Grows}

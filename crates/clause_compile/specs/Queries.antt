@@ -1,5 +1,5 @@
 -- What calls make in the heap of a query.
-use Rattle.std.specs.Prelude.{◌≡◌, ℕ, length, replicate}
+use Rattle.std.specs.Prelude.{◌≡◌, length, replicate}
 use Rattle.ref_terms.specs.search.Program.{Query}
 use Rattle.level_terms.specs.Graph.{Graph}
 use Rattle.level_terms.specs.Reading.{read}

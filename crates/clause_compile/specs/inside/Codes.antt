@@ -1,5 +1,5 @@
 -- The code of clauses.
-use Rattle.std.specs.Prelude.{◌≡◌, ℕ, List, [], ◌∷◌, option_to_list, Some}
+use Rattle.std.specs.Prelude.{◌≡◌, List, [], ◌∷◌, option_to_list, Some}
 use Rattle.ref_terms.specs.terms.Term.{Con}
 use Rattle.ref_terms.specs.unification.Spine.{args_of, head_of}
 use Rattle.ref_terms.specs.search.Program.{Clause}

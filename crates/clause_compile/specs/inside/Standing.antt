@@ -1,6 +1,6 @@
 -- Nodes that are made at a depth, over variables.
-use Rattle.std.specs.Prelude.{◌≡◌, ℕ, ℤ, ◌+◌, ◌<◌, ◌≤◌, true, List, [], map, length, get_or, reverse}
-use Rattle.ref_terms.specs.terms.Term.{Term, At, Head, Con, Int, Str, Var}
+use Rattle.std.specs.Prelude.{◌≡◌, ℕ, ◌+◌, ◌<◌, ◌≤◌, true, List, [], map, length, get_or, reverse}
+use Rattle.ref_terms.specs.terms.Term.{Term, Head, Var}
 use Rattle.ref_terms.specs.terms.Index.{shift}
 use Rattle.ref_terms.specs.terms.Apply.{fill}
 use Rattle.ref_terms.specs.laws.TermLaws.{AllBuilt, KeepsReady}

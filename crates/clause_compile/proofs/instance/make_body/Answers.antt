@@ -1,4 +1,4 @@
-use Rattle.std.proofs.Common.{◌≡◌, ◌∙◌, ◌≤◌, ℕ, List, length, map, ap, sym, subst, option_to_list}
+use Rattle.std.proofs.Common.{◌≡◌, ◌∙◌, ◌≤◌, List, length, ap, sym, subst, option_to_list}
 use Rattle.level_terms.specs.declared.node.TermId.{TermId}
 use Rattle.clause_compile.specs.Instances.{all_read, AllValidAt}
 use Rattle.clause_compile.specs.inside.Meaning.{IsCompiled, AreTermsOf}

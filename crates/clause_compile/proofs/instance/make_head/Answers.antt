@@ -1,4 +1,4 @@
-use Rattle.std.proofs.Common.{◌≡◌, ◌∙◌, ◌++◌, ℕ, [], List, length, map, ap, sym, subst, refl, replicate}
+use Rattle.std.proofs.Common.{◌∙◌, ◌++◌, [], List, length, ap, sym, subst, refl, replicate}
 use Rattle.ref_terms.specs.unification.Spine.{args_of}
 use Rattle.ref_terms.specs.search.Instance.{fresh_for_variable}
 use Rattle.level_terms.specs.declared.node.TermId.{TermId}

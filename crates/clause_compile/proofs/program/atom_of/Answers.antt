@@ -1,6 +1,5 @@
-use Rattle.std.proofs.Common.{◌≡◌, ◌∙◌, List, map, ap, sym, subst, Some, option_map}
+use Rattle.std.proofs.Common.{◌≡◌, ◌∙◌, map, ap, sym, subst, Some, option_map}
 use Rattle.ref_terms.specs.declared.sym.Sym.{Sym}
-use Rattle.ref_terms.specs.declared.tree.Tree.{Tree}
 use Rattle.ref_terms.specs.search.Front.{term_of}
 use Rattle.lp_resolve.specs.Heads.{constant_of}
 use Rattle.clause_compile.specs.inside.Compiled.{AllWithin}

@@ -1,4 +1,4 @@
-use Rattle.std.proofs.Common.{◌≡◌, ◌∙◌, refl}
+use Rattle.std.proofs.Common.{refl}
 use Rattle.lp_resolve.specs.Plain.{plain_clause}
 use Rattle.clause_compile.proofs.PredLemmas.{plain-body}
 use Rattle.clause_compile.proofs.program.clause_code.Goals as goal

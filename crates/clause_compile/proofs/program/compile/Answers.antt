@@ -1,5 +1,4 @@
-use Rattle.std.proofs.Common.{◌≡◌, ◌∙◌, [], List, map, All, ap, sym, subst, refl, length}
-use Rattle.level_terms.specs.declared.node.Node.{Node}
+use Rattle.std.proofs.Common.{◌∙◌, [], List, map, All, ap, sym, subst, refl}
 use Rattle.level_terms.proofs.GrowthLemmas.{grows-refl}
 use Rattle.lp_resolve.specs.declared.program.ClauseTree.{ClauseTree}
 use Rattle.lp_resolve.specs.declared.program.PredLine.{PredLine}

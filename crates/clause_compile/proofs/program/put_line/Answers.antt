@@ -1,4 +1,4 @@
-use Rattle.std.proofs.Common.{rules, ◌≡◌, ◌∙◌, sym, false, is_some}
+use Rattle.std.proofs.Common.{rules, ◌≡◌, ◌∙◌, false, is_some}
 use Rattle.lp_resolve.specs.Preds.{pred_at}
 use Rattle.clause_compile.proofs.PredLemmas.{line-made, none-of}
 use Rattle.clause_compile.proofs.program.put_line.Goals as goal

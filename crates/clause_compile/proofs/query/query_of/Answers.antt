@@ -1,6 +1,5 @@
-use Rattle.std.proofs.Common.{◌≡◌, ◌∙◌, ◌<◌, ◌∷◌, ◌++◌, ℕ, [], List, length, map, ap, sym, subst, refl, replicate, get_or}
+use Rattle.std.proofs.Common.{◌≡◌, ◌∙◌, ◌<◌, ◌++◌, ℕ, [], List, length, map, ap, sym, subst, replicate, get_or}
 use Rattle.ref_terms.specs.search.Front.{term_of}
-use Rattle.lp_resolve.specs.Trees.{IsWithin, as_term}
 use Rattle.level_terms.specs.declared.node.TermId.{TermId}
 use Rattle.level_terms.proofs.GrowthLemmas.{grows-trans}
 use Rattle.std.proofs.lemmas.List.{length-map}
@@ -8,7 +7,7 @@ use Rattle.level_terms.specs.Reading.{read}
 use Rattle.level_terms.specs.Valid.{IsValid}
 use Rattle.lp_resolve.specs.Plain.{plain_variable}
 use Rattle.clause_compile.specs.Instances.{names, AllValidAt}
-use Rattle.clause_compile.specs.inside.Meaning.{IsSkeleton, IsCompiled, AreTermsOf}
+use Rattle.clause_compile.specs.inside.Meaning.{AreTermsOf}
 use Rattle.clause_compile.proofs.CodeLemmas.{AreVariables, shared-grown, variables-grown, variables-valid, are-fresh}
 use Rattle.clause_compile.proofs.CodesLemmas.{code-skeleton}
 use Rattle.clause_compile.proofs.QueryLemmas.{all-shared, goal-made, first-reads, first-valid}
