@@ -1,0 +1,6 @@
+pub mod Skeleton
+pub mod Standing
+pub mod Meaning
+pub mod Compiled
+pub mod Codes
+pub mod Fit
