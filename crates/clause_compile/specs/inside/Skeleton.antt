@@ -1,6 +1,6 @@
 -- What skeletons mean.
-use Rattle.std.specs.Prelude.{◌≡◌, ℕ, suc, ◌<◌, ◌&&◌, true, false, List, [], ◌∷◌, map, length, cond, nat_eq, nat_lt, get_or}
-use Rattle.std.specs.List.{list_all}
+use Rattle.std.specs.Prelude.{◌≡◌, ℕ, suc, ◌<◌, ◌&&◌, ◌||◌, true, false, List, [], ◌∷◌, map, length, cond, nat_eq, nat_lt, get_or}
+use Rattle.std.specs.List.{list_all, list_any}
 use Rattle.ref_terms.specs.terms.Term as term
 use Rattle.ref_terms.specs.terms.Eta.{lam}
 use Rattle.ref_terms.specs.unification.Spine.{apply_all}
@@ -16,11 +16,11 @@ use Rattle.clause_compile.specs.declared.skeleton.Step.TheVariants.{Level, Lam, 
 
 -- what stands where there is no node
 abbrev pub nothing : Value
-nothing = record { term = λ env. term.At (term.Con 0); holds = λ e. false }
+nothing = record { term = λ env. term.At (term.Con 0); holds = λ e. false; reached = λ w. false }
 
 -- a variable of the clause, which stands for itself
 abbrev pub own_variable : ℕ → Value
-own_variable v = record { term = λ env. term.At (term.Var v); holds = λ e. true }
+own_variable v = record { term = λ env. term.At (term.Var v); holds = λ e. true; reached = λ w. nat_eq w v }
 
 -- what a part means, by what the nodes that are shared and those that are made mean
 abbrev pub part_value : (shared made : ℕ → Value) → Part → Value
@@ -30,15 +30,15 @@ part_value shared made (Made i) = made i
 
 -- the abstraction of a body over a level
 abbrev pub lam_value : ℕ → Value → Value
-lam_value l b = record { term = λ env. lam (b.term (enter l env)); holds = λ e. nat_lt l (suc e) && b.holds (suc l) }
+lam_value l b = record { term = λ env. lam (b.term (enter l env)); holds = λ e. nat_lt l (suc e) && b.holds (suc l); reached = b.reached }
 
 -- a head with its arguments
 abbrev pub app_value : Value → List Value → Value
-app_value h xs = record { term = λ env. apply_all (h.term env) (map (λ (x : Value). x.term env) xs); holds = λ e. h.holds e && list_all (λ (x : Value). x.holds e) xs }
+app_value h xs = record { term = λ env. apply_all (h.term env) (map (λ (x : Value). x.term env) xs); holds = λ e. h.holds e && list_all (λ (x : Value). x.holds e) xs; reached = λ w. h.reached w || list_any (λ (x : Value). x.reached w) xs }
 
 -- what a step makes, by what its parts mean
 abbrev pub step_value : (Part → Value) → Step → Value
-step_value f (Level l) = record { term = λ env. env l; holds = λ e. nat_lt l e }
+step_value f (Level l) = record { term = λ env. env l; holds = λ e. nat_lt l e; reached = λ w. false }
 step_value f (Lam l b) = lam_value l (f b)
 step_value f (App h ts) = app_value (f h) (map f ts)
 
@@ -49,7 +49,7 @@ made_value shared (s ∷ before) i = cond (nat_eq (length before) i) (step_value
 
 -- what the nodes that are shared mean: they have no variables
 abbrev pub shared_value : List Node → ℕ → Value
-shared_value nodes t = record { term = node_term nodes [] t; holds = valid nodes [] t }
+shared_value nodes t = record { term = node_term nodes [] t; holds = valid nodes [] t; reached = λ w. false }
 
 -- a part names one of so many variables, an older node that is valid everywhere, or a step
 abbrev pub IsPart : (variables : ℕ) → (nodes : List Node) → (made : ℕ) → Part → Type 0
