@@ -128,8 +128,14 @@ fn clause_code(
     ensures grows { Grows heap.old heap.new [] [] }
 {
     let atom = atom_of(&clause.head);
-    let code =
-        compile_clause(alloc, heap, atom.constant, clause.vars, atom.args, &clause.body)?;
+    let code = compile_clause(
+        alloc,
+        heap,
+        atom.constant,
+        clause.vars,
+        atom.args,
+        &clause.body,
+    )?;
     Ok(code)
 }
 

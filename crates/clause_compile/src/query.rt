@@ -32,11 +32,7 @@ fn first_of(terms: &[TermId]) -> TermId
 /// the variables have the query's numbers.
 ///
 /// Errors: want of memory.
-pub fn query_of(
-    alloc: Global,
-    heap: &mut Heap,
-    query: &Query,
-) -> Result<QueryInstance, AllocError>
+pub fn query_of(alloc: Global, heap: &mut Heap, query: &Query) -> Result<QueryInstance, AllocError>
     requires closed { heap.old.depths ≡ [] }
     requires within { IsWithin (length query.now.vars) 0 (as_term query.now.goal) }
     ensures query { IfOk result (IsQueryOf (plain_query query.now) heap.new) }
@@ -50,7 +46,15 @@ pub fn query_of(
     heap.is_sound();
     let mut room = Room::new(alloc);
     let mut terms = Vec::new(alloc);
-    make_terms(alloc, heap, &skeleton, 0, variables.as_slice(), &mut room, &mut terms)?;
+    make_terms(
+        alloc,
+        heap,
+        &skeleton,
+        0,
+        variables.as_slice(),
+        &mut room,
+        &mut terms,
+    )?;
     let goal = first_of(terms.as_slice());
     Ok(QueryInstance { variables, goal })
 }
