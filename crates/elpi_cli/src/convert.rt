@@ -8,8 +8,8 @@ ghost use Rattle.elpi_cli.specs.Conversion.{IsHeadedBy, IsWordOf, AreWordsOf, Is
 
 use crate::horn::{Atom, Horn, HornClause, Span};
 use lp_parser::Item;
-use lp_resolve::{ClauseTree, Query, args_of, constant_of};
-use ref_terms::{Sequence, Sym, Tree};
+use lp_resolve::{ClauseTree, Query};
+use ref_terms::{Head, Sequence, Tree};
 use std::alloc::{AllocError, Global};
 
 // The least number of a constant that isn't reserved.
@@ -21,12 +21,35 @@ const COMMA: usize = 3;
 // How many commas a goal has at most.
 const MAX_COMMAS: usize = 1000;
 
+// The number of the constant that heads a tree.
+fn head_constant(tree: &Tree) -> Option<usize>
+    ensures { result ≡ constant_of tree.now }
+{
+    match tree {
+        Tree::Lam(_) => None,
+        Tree::Ap(head, _) => match head {
+            Head::Con(symbol) => Some(symbol.0),
+            _ => None,
+        },
+    }
+}
+
+// The arguments of a tree; an abstraction has none.
+fn arguments(tree: &Tree) -> &[Tree]
+    ensures { result.now ≡ args_of tree.now }
+{
+    match tree {
+        Tree::Lam(_) => &[],
+        Tree::Ap(_, args) => args.as_slice(),
+    }
+}
+
 // The number of the constant that heads a tree, where it isn't reserved.
 fn free_constant(tree: &Tree) -> Option<usize>
     ensures { MatchOption result (has_free_head tree.now ≡ false) (IsHeadedBy tree.now) }
 {
-    match constant_of(tree) {
-        Some(Sym(number)) if number >= FIRST_FREE => Some(number),
+    match head_constant(tree) {
+        Some(number) if number >= FIRST_FREE => Some(number),
         _ => None,
     }
 }
@@ -36,7 +59,7 @@ fn read_word(tree: &Tree) -> Option<usize>
     ensures { MatchOption result (is_word tree.now ≡ false) (IsWordOf tree.now) }
 {
     match free_constant(tree) {
-        Some(number) if args_of(tree).is_empty() => Some(number),
+        Some(number) if arguments(tree).is_empty() => Some(number),
         _ => None,
     }
 }
@@ -60,7 +83,7 @@ fn read_atom(alloc: Global, tree: &Tree) -> Result<Option<Atom>, AllocError>
     ensures { IfOk result (λ answer. MatchOption answer (is_atom tree.now ≡ false) (IsAtomOf tree.now)) }
 {
     match free_constant(tree) {
-        Some(constant) => match read_words(alloc, args_of(tree))? {
+        Some(constant) => match read_words(alloc, arguments(tree))? {
             Some(arguments) => Ok(Some(Atom {
                 constant,
                 arguments,
@@ -75,8 +98,8 @@ fn read_atom(alloc: Global, tree: &Tree) -> Result<Option<Atom>, AllocError>
 fn sides(tree: &Tree) -> Option<(&Tree, &Tree)>
     ensures { MatchOption result (sides tree.now ≡ None) (λ pair. sides tree.now ≡ Some (pair.0.now, pair.1.now)) }
 {
-    match constant_of(tree) {
-        Some(Sym(COMMA)) => match args_of(tree) {
+    match head_constant(tree) {
+        Some(COMMA) => match arguments(tree) {
             [left, right] => Some((left, right)),
             _ => None,
         },

@@ -10,7 +10,7 @@ use Rattle.elpi_cli.proofs.convert.read_atom.Goals as goal
 
 pub returns-in-Some-2 : goal.returns-in-Some-2
 returns-in-Some-2 c =
-    let words = c.args_of.result.now in
+    let words = c.arguments.result.now in
     let found : AreWordsOf words c.in-Some-2.arguments =
     subst (λ (o : Option (List ℕ)). MatchOption o (list_all is_word words ≡ false) (AreWordsOf words)) c.in-Some-2.is c.in_ok-arguments-in-Some.ensures in
-    atom-read c.args.tree.now c.in-Some.constant c.in-Some-2.arguments c.in-Some.ensures (subst (λ (ts : List Tree). AreWordsOf ts c.in-Some-2.arguments) c.args_of.ensures found)
+    atom-read c.args.tree.now c.in-Some.constant c.in-Some-2.arguments c.in-Some.ensures (subst (λ (ts : List Tree). AreWordsOf ts c.in-Some-2.arguments) c.arguments.ensures found)
