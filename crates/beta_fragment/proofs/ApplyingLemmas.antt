@@ -4,7 +4,7 @@ use Rattle.ref_terms.specs.terms.Term as term
 use Rattle.ref_terms.specs.terms.Term.{Term}
 use Rattle.ref_terms.specs.terms.Eta.{eta, lam, lam_of}
 use Rattle.beta_fragment.specs.declared.cells.Cell.{Cell}
-use Rattle.beta_fragment.specs.Cells.{term_at, terms_of, Gains, IsKept, IsKeptIfAny}
+use Rattle.beta_fragment.specs.inside.Cells.{term_at, terms_of, Gains, IsKept, IsKeptIfAny}
 use Rattle.beta_fragment.proofs.CellLemmas.{gains-at}
 use Rattle.beta_fragment.proofs.KeptLemmas.{added-kept, added-gains, same-gains}
 

@@ -14,7 +14,7 @@ use Rattle.beta_fragment.specs.Names.{names, renamed}
 use Rattle.beta_fragment.specs.HeadForm.{all_read, AllValidAt}
 use Rattle.beta_fragment.specs.declared.evaluating.Task.{Task}
 use Rattle.beta_fragment.specs.declared.evaluating.Task.TheVariants.{Visit, App}
-use Rattle.beta_fragment.specs.Evaluation.{arg_tasks}
+use Rattle.beta_fragment.specs.inside.Evaluation.{arg_tasks}
 
 -- an argument of a list that was valid from the last one on
 valid-split : (g : Graph) (d : ℕ) (ts : List TermId) (t : TermId) → AllValidAt g (ts ++ t ∷ []) d → AllValidAt g ts d × IsValid g t.index d

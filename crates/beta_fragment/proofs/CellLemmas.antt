@@ -2,7 +2,7 @@
 use Rattle.std.proofs.Common.{◌≡◌, ℕ, ◌<◌, ◌++◌, List, [], ◌∷◌, length, cond, nat_eq, Bool, true, false, refl, sym, ap, ◌∙◌, arith, length-append, append_assoc, eqb-true}
 use Rattle.ref_terms.specs.terms.Term.{Term}
 use Rattle.ref_terms.specs.lemmas.NameLemmas.{nat_eq_self}
-use Rattle.beta_fragment.specs.Cells.{term_at, Gains, IsKept}
+use Rattle.beta_fragment.specs.inside.Cells.{term_at, Gains, IsKept}
 
 -- an older term
 pub at-older : (x : Term) (older : List Term) (i : ℕ) → i < length older → term_at (x ∷ older) i ≡ term_at older i

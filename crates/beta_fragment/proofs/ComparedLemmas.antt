@@ -5,8 +5,8 @@ use Rattle.ref_terms.specs.terms.Term.{Term}
 use Rattle.beta_fragment.specs.declared.cells.Cell.{Cell}
 use Rattle.beta_fragment.specs.declared.cells.Cell.TheVariants.{Lam, App}
 use Rattle.beta_fragment.specs.declared.comparing.Sides.{Sides}
-use Rattle.beta_fragment.specs.Cells.{term_at, cell_term, HasParts}
-use Rattle.beta_fragment.specs.Compared.{term_size, AreThere, IsEqual, AllEqual, sides_size, Leaves}
+use Rattle.beta_fragment.specs.inside.Cells.{term_at, cell_term, HasParts}
+use Rattle.beta_fragment.specs.inside.Compared.{term_size, AreThere, IsEqual, AllEqual, sides_size, Leaves}
 
 size-some : (u : Term) → 1 ≤ term_size u
 size-some (term.Lam b) = omega arith

@@ -24,7 +24,7 @@ use Rattle.ref_terms.specs.terms.Index.{shift}
 use Rattle.ref_terms.specs.terms.Apply.{apply}
 use Rattle.ref_terms.specs.terms.Eta.{lam}
 use Rattle.ref_terms.specs.unification.Spine.{apply_all}
-use Rattle.beta_fragment.specs.Cells.{term_at, Gains, IsKept}
+use Rattle.beta_fragment.specs.inside.Cells.{term_at, Gains, IsKept}
 use Rattle.beta_fragment.specs.HeadForm.{AllValidAt, rigid_head}
 use Rattle.beta_fragment.specs.declared.answer.RigidHead.{RigidHead}
 use Rattle.beta_fragment.specs.declared.answer.RigidHead.TheVariants as rigid
@@ -35,7 +35,7 @@ use Rattle.beta_fragment.specs.declared.evaluating.Entry.{Entry}
 use Rattle.beta_fragment.specs.declared.evaluating.Entry.TheVariants.{Named, Placed}
 use Rattle.beta_fragment.specs.declared.evaluating.Task.{Task}
 use Rattle.beta_fragment.specs.declared.evaluating.Task.TheVariants.{Visit, Lam, App}
-use Rattle.beta_fragment.specs.Evaluation.{entry_term, entry_at, entries_env, IsPlaced, AllPlaced, entries_before, IsEntered, CanVisit, Comes, work_size, IsComing, Steps, done_terms, AreDone, IsReady, arg_tasks}
+use Rattle.beta_fragment.specs.inside.Evaluation.{entry_term, entry_at, entries_env, IsPlaced, AllPlaced, entries_before, IsEntered, CanVisit, Comes, work_size, IsComing, Steps, done_terms, AreDone, IsReady, arg_tasks}
 use Rattle.beta_fragment.proofs.CellLemmas.{gains-longer, gains-at}
 use Rattle.beta_fragment.proofs.EnterLemmas.{body-valid}
 use Rattle.beta_fragment.proofs.FirmLemmas.{reads-value}

@@ -21,7 +21,7 @@ use Rattle.beta_fragment.specs.Body.{at_name, opened_reads}
 use Rattle.level_terms.specs.Values.{value_of}
 use Rattle.beta_fragment.specs.Moves.{Puts, around, put_name, Lacks}
 use Rattle.beta_fragment.specs.Quoted.{AllHeads, IsOpenHead, put_head}
-use Rattle.beta_fragment.specs.Settled.{IsQuotable}
+use Rattle.beta_fragment.specs.inside.Settled.{IsQuotable}
 use Rattle.level_terms.proofs.ReadLemmas.{read-follows}
 use Rattle.beta_fragment.proofs.EnterLemmas.{entered, first-places}
 use Rattle.level_terms.proofs.MakeLemmas.{below_true}

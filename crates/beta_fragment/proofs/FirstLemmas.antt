@@ -5,7 +5,7 @@ use Rattle.level_terms.specs.Graph.{Graph}
 use Rattle.level_terms.specs.Reading.{read}
 use Rattle.beta_fragment.specs.Names.{names}
 use Rattle.beta_fragment.specs.Firm.{IsReadiness}
-use Rattle.beta_fragment.specs.Turn.{IsFirst, NoneReady}
+use Rattle.beta_fragment.specs.inside.Turn.{IsFirst, NoneReady}
 use Rattle.beta_fragment.specs.declared.glance.Readiness.{Readiness}
 use Rattle.beta_fragment.specs.declared.glance.Readiness.TheVariants.{Level, Ready, Unready, Unknown}
 

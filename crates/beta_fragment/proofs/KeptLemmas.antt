@@ -5,7 +5,7 @@ use Rattle.ref_terms.specs.terms.Term as term
 use Rattle.ref_terms.specs.terms.Term.{Term}
 use Rattle.beta_fragment.specs.declared.cells.Cell.{Cell}
 use Rattle.beta_fragment.specs.declared.cells.Cell.TheVariants.{Rigid, Bound, Var, Lam, App}
-use Rattle.beta_fragment.specs.Cells.{term_at, cell_term, terms_of, HasParts, AllHaveParts, Gains, IsKept}
+use Rattle.beta_fragment.specs.inside.Cells.{term_at, cell_term, terms_of, HasParts, AllHaveParts, Gains, IsKept}
 use Rattle.beta_fragment.proofs.CellLemmas.{at-newest, gains-refl, gains-one, gains-trans, gains-at, kept-newest}
 
 -- as many terms as cells

@@ -23,10 +23,10 @@ use Rattle.beta_fragment.specs.Names.{names, renamed}
 use Rattle.beta_fragment.specs.HeadForm.{AllValidAt, all_read}
 use Rattle.beta_fragment.specs.Firm.{IsPlain}
 use Rattle.beta_fragment.specs.Moves.{Lacks}
-use Rattle.beta_fragment.specs.Cells.{term_at, Gains, IsKept}
+use Rattle.beta_fragment.specs.inside.Cells.{term_at, Gains, IsKept}
 use Rattle.beta_fragment.proofs.CellLemmas.{kept-gains}
 use Rattle.beta_fragment.specs.declared.equality.Pair.{Pair}
-use Rattle.beta_fragment.specs.Pairs.{IsValidPair, AllValidPairs, IsSame, AllSame, pairs_size, pairs_of, StandsFor, Divides, TurnsOut, IsValueOf}
+use Rattle.beta_fragment.specs.inside.Pairs.{IsValidPair, AllValidPairs, IsSame, AllSame, pairs_size, pairs_of, StandsFor, Divides, TurnsOut, IsValueOf}
 use Rattle.beta_fragment.proofs.EnterLemmas.{names-places, body-entered, body-valid}
 use Rattle.beta_fragment.proofs.FirmLemmas.{apply-plain, reads-value}
 use Rattle.beta_fragment.proofs.MoveLemmas.{app-valid}

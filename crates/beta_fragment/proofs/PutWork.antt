@@ -17,7 +17,7 @@ use Rattle.beta_fragment.specs.declared.renaming.Task.TheVariants.{Visit, Lam, A
 use Rattle.beta_fragment.specs.Firm.{IsPlain, IsPlainNode}
 use Rattle.level_terms.specs.Values.{Value}
 use Rattle.beta_fragment.specs.Moves.{putting}
-use Rattle.beta_fragment.specs.Work.{Leads, work_size, visits}
+use Rattle.beta_fragment.specs.inside.Work.{Leads, work_size, visits}
 use Rattle.level_terms.proofs.ReadLemmas.{valid-below, read-built, grown-reads}
 use Rattle.beta_fragment.proofs.EnterLemmas.{body-valid}
 use Rattle.beta_fragment.proofs.MoveLemmas.{app-valid, node-before, assigned-before}

@@ -22,7 +22,7 @@ use Rattle.beta_fragment.specs.Names.{names, renamed, AllBelow}
 use Rattle.beta_fragment.specs.HeadForm.{AllValidAt, all_read}
 use Rattle.beta_fragment.specs.Moves.{Lacks}
 use Rattle.beta_fragment.specs.Quoted.{AllIndicesBelow, AllHeads, IsOpenHead}
-use Rattle.beta_fragment.specs.Settled.{IsQuotable}
+use Rattle.beta_fragment.specs.inside.Settled.{IsQuotable}
 use Rattle.level_terms.proofs.ReadLemmas.{read-built, read-follows}
 use Rattle.level_terms.proofs.MakeLemmas.{below_true}
 use Rattle.beta_fragment.proofs.NamelessLemmas.{nameless-read}

@@ -30,7 +30,7 @@ use Rattle.beta_fragment.specs.HeadForm.{rigid_head}
 use Rattle.level_terms.specs.Values.{Value, value_of, AllMiss, IsLamOf, IsAppOf, IsLevelOf, IsVarOf}
 use Rattle.beta_fragment.specs.Moves.{put_name}
 use Rattle.beta_fragment.specs.Quoted.{AllNamesBelow, put_head, names_with, IsValidIfAny}
-use Rattle.beta_fragment.specs.Quoting.{within, heads_below, KeepsHeads, Quotes, IsHeadOf, Setting, heads_of, AllQuote, app_to, items_of}
+use Rattle.beta_fragment.specs.inside.Quoting.{within, heads_below, KeepsHeads, Quotes, IsHeadOf, Setting, heads_of, AllQuote, app_to, items_of}
 use Rattle.level_terms.proofs.ReadLemmas.{read-follows, valid-below, grown-reads}
 use Rattle.beta_fragment.proofs.EnterLemmas.{names-places}
 use Rattle.beta_fragment.proofs.VarLemmas.{enter-own, enter-other}

@@ -13,10 +13,10 @@ use Rattle.beta_fragment.specs.declared.quoting.Task.TheVariants.{Visit, Lam, Ap
 use Rattle.level_terms.specs.Values.{Value, value_of, IsLamOf, IsAppOf}
 use Rattle.beta_fragment.specs.declared.cells.Cell.{Cell}
 use Rattle.beta_fragment.specs.declared.cells.Cell.TheVariants as cell
-use Rattle.beta_fragment.specs.Cells.{term_at, cell_term, HasParts}
+use Rattle.beta_fragment.specs.inside.Cells.{term_at, cell_term, HasParts}
 use Rattle.beta_fragment.specs.HeadForm.{IsAbstraction}
 use Rattle.beta_fragment.specs.Quoted.{AllHeads, IsOpenHead, put_head}
-use Rattle.beta_fragment.specs.Quoting.{Quotes, Item, item, Setting, set_for, heads_of, AllQuote, MayStand, CanVisit, app_to, items_of, Comes, IsQuoting, term_size, task_size, tasks_size, visits_of, IsReady, AllThere, Unwinds}
+use Rattle.beta_fragment.specs.inside.Quoting.{Quotes, Item, item, Setting, set_for, heads_of, AllQuote, MayStand, CanVisit, app_to, items_of, Comes, IsQuoting, term_size, task_size, tasks_size, visits_of, IsReady, AllThere, Unwinds}
 use Rattle.level_terms.proofs.ReadLemmas.{valid-below}
 use Rattle.level_terms.proofs.MakeLemmas.{values-kept}
 use Rattle.beta_fragment.proofs.MoveLemmas.{assigned-before}

@@ -9,7 +9,7 @@ use Rattle.ref_terms.specs.terms.Term.{Term}
 use Rattle.ref_terms.specs.terms.Apply.{fill}
 use Rattle.beta_fragment.specs.Names.{names, renamed}
 use Rattle.beta_fragment.specs.Quoted.{AllHeads, IsOpenHead, put_head}
-use Rattle.beta_fragment.specs.Settled.{IsQuotable}
+use Rattle.beta_fragment.specs.inside.Settled.{IsQuotable}
 use Rattle.beta_fragment.proofs.QuotableLemmas.{quotable-spine}
 use Rattle.beta_fragment.proofs.SettledLemmas.{quoted-reads}
 

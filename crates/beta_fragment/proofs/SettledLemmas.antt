@@ -20,7 +20,7 @@ use Rattle.beta_fragment.specs.Names.{names}
 use Rattle.beta_fragment.specs.Body.{IsLam}
 use Rattle.beta_fragment.specs.HeadForm.{AllValidAt, all_read, rigid_head, IsAbstraction, ReadsAsLam, FirstUnready}
 use Rattle.beta_fragment.specs.Quoted.{AllIndicesBelow, AllHeads, IsOpenHead, put_head}
-use Rattle.beta_fragment.specs.Settled.{IsQuotable, IsHeld, IsUnwound}
+use Rattle.beta_fragment.specs.inside.Settled.{IsQuotable, IsHeld, IsUnwound}
 use Rattle.beta_fragment.proofs.MoveLemmas.{assigned-before}
 use Rattle.beta_fragment.proofs.HeadLemmas.{newest-arg, valid-grown_all, read-grown_all}
 

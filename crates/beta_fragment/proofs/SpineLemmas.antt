@@ -17,9 +17,9 @@ use Rattle.beta_fragment.specs.Names.{names}
 use Rattle.beta_fragment.specs.HeadForm.{AllValidAt, all_read, rigid_head}
 use Rattle.beta_fragment.specs.declared.answer.RigidHead.{RigidHead}
 use Rattle.beta_fragment.specs.Firm.{IsPlain, IsPlainNode}
-use Rattle.beta_fragment.specs.Spine.{args_in}
+use Rattle.beta_fragment.specs.inside.Spine.{args_in}
 use Rattle.beta_fragment.specs.declared.equality.Pair.{Pair}
-use Rattle.beta_fragment.specs.Pairs.{IsValidPair, AllValidPairs, IsSame, AllSame, pairs_size, pairs_of, Divides}
+use Rattle.beta_fragment.specs.inside.Pairs.{IsValidPair, AllValidPairs, IsSame, AllSame, pairs_size, pairs_of, Divides}
 use Rattle.beta_fragment.proofs.EnterLemmas.{names-places}
 use Rattle.beta_fragment.proofs.FirmLemmas.{apply-plain, apply_all-head}
 use Rattle.level_terms.proofs.MakeLemmas.{parts-there}

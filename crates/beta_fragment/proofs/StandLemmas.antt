@@ -29,8 +29,8 @@ use Rattle.beta_fragment.specs.declared.answer.Whnf.TheVariants.{Lam as LamForm,
 use Rattle.beta_fragment.specs.declared.answer.RigidHead.TheVariants.{Con, Int, Str, Level as LevelHead}
 use Rattle.level_terms.specs.declared.node.VarId.{VarId}
 use Rattle.beta_fragment.specs.Firm.{IsSpine, IsPlain}
-use Rattle.beta_fragment.specs.Turn.{GoesOn, TakesOn, FirstReady, IsFirstArg}
-use Rattle.beta_fragment.specs.Standing.{StandFor, ArePut, HasForm, FoundAs}
+use Rattle.beta_fragment.specs.inside.Turn.{GoesOn, TakesOn, FirstReady, IsFirstArg}
+use Rattle.beta_fragment.specs.inside.Standing.{StandFor, ArePut, HasForm, FoundAs}
 use Rattle.level_terms.proofs.ReadLemmas.{read-built, valid-below, grown-reads}
 use Rattle.beta_fragment.proofs.EnterLemmas.{body-applied, body-valid}
 use Rattle.level_terms.proofs.MakeLemmas.{parts-there, apply_all-append}

@@ -11,8 +11,8 @@ use Rattle.beta_fragment.specs.declared.answer.RigidHead.TheVariants as rigid
 use Rattle.beta_fragment.specs.declared.taking.Replacement.{Replacement}
 use Rattle.beta_fragment.specs.declared.taking.Replacement.TheVariants.{Part, Missing, Raised}
 use Rattle.beta_fragment.specs.HeadForm.{rigid_head}
-use Rattle.beta_fragment.specs.Cells.{Gains}
-use Rattle.beta_fragment.specs.Taking.{under_some, replaced, with_first, without_first, raised_by, raised, outside, images, PartThere}
+use Rattle.beta_fragment.specs.inside.Cells.{Gains}
+use Rattle.beta_fragment.specs.inside.Taking.{under_some, replaced, with_first, without_first, raised_by, raised, outside, images, PartThere}
 use Rattle.beta_fragment.proofs.CellLemmas.{gains-at}
 use Rattle.ref_terms.specs.lemmas.TermLemmas.{ren_sub, ren-ren, ren_id}
 

@@ -8,8 +8,8 @@ use Rattle.beta_fragment.specs.declared.taking.Replacement.{Replacement}
 use Rattle.beta_fragment.specs.declared.taking.Replacement.TheVariants.{Part, Missing, Raised}
 use Rattle.beta_fragment.specs.declared.taking.Task.{Task}
 use Rattle.beta_fragment.specs.declared.taking.Task.TheVariants.{Visit, Lam, App}
-use Rattle.beta_fragment.specs.Cells.{term_at, Gains, IsKept, IsKeptIfAny}
-use Rattle.beta_fragment.specs.Taking.{replaced, outside, images, raised, PartThere, IsHeadTerm, AllThere, Comes, weight, cost, Steps, IsReady}
+use Rattle.beta_fragment.specs.inside.Cells.{term_at, Gains, IsKept, IsKeptIfAny}
+use Rattle.beta_fragment.specs.inside.Taking.{replaced, outside, images, raised, PartThere, IsHeadTerm, AllThere, Comes, weight, cost, Steps, IsReady}
 use Rattle.beta_fragment.proofs.CellLemmas.{gains-at, gains-longer, gains-refl}
 use Rattle.beta_fragment.proofs.TakingLaws.{images-stay, raised-image, raised-none}
 

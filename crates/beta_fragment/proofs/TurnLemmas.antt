@@ -23,8 +23,8 @@ use Rattle.beta_fragment.specs.Names.{names, renamed}
 use Rattle.beta_fragment.specs.Moves.{IsMove}
 use Rattle.beta_fragment.specs.HeadForm.{AllValidAt, all_read, FirstUnready}
 use Rattle.beta_fragment.specs.Firm.{IsSpine}
-use Rattle.beta_fragment.specs.Turn.{GoesOn, NoneReady, IsFirst}
-use Rattle.beta_fragment.specs.Spine.{args_in}
+use Rattle.beta_fragment.specs.inside.Turn.{GoesOn, NoneReady, IsFirst}
+use Rattle.beta_fragment.specs.inside.Spine.{args_in}
 use Rattle.beta_fragment.specs.declared.glance.Readiness.TheVariants.{Level, Ready}
 use Rattle.std.specs.Option.{option_to_list}
 use Rattle.beta_fragment.proofs.SplitLemmas.{empty-list}

@@ -15,7 +15,7 @@ use Rattle.level_terms.proofs.TreeLemmas.{value_below}
 use Rattle.std.proofs.Math.ListN.{get_or-append}
 use Rattle.beta_fragment.specs.declared.renaming.Task.{Task}
 use Rattle.beta_fragment.specs.declared.renaming.Task.TheVariants.{Visit}
-use Rattle.beta_fragment.specs.Work.{Leads, work_size}
+use Rattle.beta_fragment.specs.inside.Work.{Leads, work_size}
 use Rattle.level_terms.specs.Valid.{IsValid}
 use Rattle.level_terms.specs.Reading.{enter, levels, variable_reads}
 use Rattle.level_terms.proofs.CoverLemmas.{places-enter}

@@ -4,7 +4,7 @@ use Rattle.std.proofs.lemmas.List.{reverse-append, reverse-reverse}
 use Rattle.level_terms.specs.declared.node.TermId.{TermId}
 use Rattle.beta_fragment.specs.declared.renaming.Task.{Task}
 use Rattle.beta_fragment.specs.declared.renaming.Task.TheVariants.{Visit, App}
-use Rattle.beta_fragment.specs.Work.{visits}
+use Rattle.beta_fragment.specs.inside.Work.{visits}
 
 pub drop_all : (b : ℕ) (ts : List TermId) → drop (length ts) (visits b ts) ≡ []
 drop_all b [] = refl

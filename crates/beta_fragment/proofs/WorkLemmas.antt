@@ -14,7 +14,7 @@ use Rattle.beta_fragment.specs.declared.renaming.Task.TheVariants.{Visit, Lam, A
 use Rattle.beta_fragment.specs.HeadForm.{AllValidAt}
 use Rattle.level_terms.specs.Values.{Value, value_of, IsLamOf, IsAppOf}
 use Rattle.beta_fragment.specs.Moves.{Plan, naming, Does, IsLow, HasFew}
-use Rattle.beta_fragment.specs.Work.{Leads, work_size, Steps, visits, IsReady}
+use Rattle.beta_fragment.specs.inside.Work.{Leads, work_size, Steps, visits, IsReady}
 use Rattle.beta_fragment.specs.Names.{AllBelow}
 use Rattle.level_terms.proofs.ReadLemmas.{valid-below}
 use Rattle.beta_fragment.proofs.EnterLemmas.{body-valid}

@@ -6,8 +6,8 @@ ghost use Rattle.ref_terms.specs.terms.Term.{Term};
 ghost use Rattle.ref_terms.specs.terms.Apply.{apply};
 ghost use Rattle.ref_terms.specs.terms.Eta.{lam, eta};
 ghost use Rattle.ref_terms.specs.terms.Ready.{ready};
-ghost use Rattle.beta_fragment.specs.Cells.{IsNoApp, terms_of, term_at, cell_term, Gains, IsKept, IsKeptIfAny};
-ghost use Rattle.beta_fragment.specs.Taking.{IsFirstIndex};
+ghost use Rattle.beta_fragment.specs.inside.Cells.{IsNoApp, terms_of, term_at, cell_term, Gains, IsKept, IsKeptIfAny};
+ghost use Rattle.beta_fragment.specs.inside.Taking.{IsFirstIndex};
 
 use crate::cells::{Cell, Cells};
 use crate::taking::{lowered_term, opened_term};

@@ -1,7 +1,7 @@
 //! Terms that are kept by their parts, for what a look at nodes can't tell.
 
 ghost use Rattle.std.specs.Prelude.{◌≡◌, [], ◌∷◌, ◌<◌, length, IfOk, OnErr};
-ghost use Rattle.beta_fragment.specs.Cells.{terms_of, term_at, cell_term, HasParts};
+ghost use Rattle.beta_fragment.specs.inside.Cells.{terms_of, term_at, cell_term, HasParts};
 
 use crate::answer::RigidHead;
 use level_terms::VarId;
@@ -33,7 +33,7 @@ pub(crate) struct Cells {
 impl Model for Cells {
     ghost use Rattle.std.specs.Prelude.{List};
     ghost use Rattle.beta_fragment.specs.declared.cells.Cell.{Cell as CellOf};
-    ghost use Rattle.beta_fragment.specs.Cells.{cells_view, AreCells};
+    ghost use Rattle.beta_fragment.specs.inside.Cells.{cells_view, AreCells};
 
     ghost Value = { List CellOf };
 

@@ -3,8 +3,8 @@
 ghost use Rattle.std.specs.Prelude.{◌≡◌, ◌<◌, ◌↔◌, List, length, IfOk, IsTrue};
 ghost use Rattle.ref_terms.specs.terms.Term.{Term};
 ghost use Rattle.beta_fragment.specs.HeadForm.{rigid_head};
-ghost use Rattle.beta_fragment.specs.Cells.{terms_of, term_at};
-ghost use Rattle.beta_fragment.specs.Compared.{IsLikeness, ComesTo, told_by};
+ghost use Rattle.beta_fragment.specs.inside.Cells.{terms_of, term_at};
+ghost use Rattle.beta_fragment.specs.inside.Compared.{IsLikeness, ComesTo, told_by};
 
 use crate::answer::RigidHead;
 use crate::cells::{Cell, Cells};

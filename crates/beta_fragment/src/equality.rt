@@ -13,8 +13,8 @@ ghost use Rattle.ref_terms.specs.terms.Term as term;
 ghost use Rattle.ref_terms.specs.unification.Spine.{apply_all};
 ghost use Rattle.beta_fragment.specs.Names.{names};
 ghost use Rattle.beta_fragment.specs.HeadForm.{rigid_head, all_read};
-ghost use Rattle.beta_fragment.specs.Spine.{args_in};
-ghost use Rattle.beta_fragment.specs.Pairs.{IsValidPair, IsSame, pairs_of, StandsFor, TurnsOut, MayDivide, MayTell, IsValueOf};
+ghost use Rattle.beta_fragment.specs.inside.Spine.{args_in};
+ghost use Rattle.beta_fragment.specs.inside.Pairs.{IsValidPair, IsSame, pairs_of, StandsFor, TurnsOut, MayDivide, MayTell, IsValueOf};
 
 use crate::answer::RigidHead;
 use crate::cells::Cells;

@@ -19,9 +19,9 @@ ghost use Rattle.beta_fragment.specs.Moves.{IsMove};
 ghost use Rattle.level_terms.specs.Values.{IsVarOf, value_of};
 ghost use Rattle.beta_fragment.specs.HeadForm.{IsHeadForm, HasLowHead, AllValidAt, all_read, rigid_head, ReadsAsLam};
 ghost use Rattle.beta_fragment.specs.Firm.{IsSpine, IsAbstractionNode};
-ghost use Rattle.beta_fragment.specs.Spine.{args_in};
+ghost use Rattle.beta_fragment.specs.inside.Spine.{args_in};
 ghost use Rattle.beta_fragment.specs.Body.{IsLam};
-ghost use Rattle.beta_fragment.specs.Turn.{IsTurn, NoneReady, IsFirst, FirstReady, IsFirstArg};
+ghost use Rattle.beta_fragment.specs.inside.Turn.{IsTurn, NoneReady, IsFirst, FirstReady, IsFirstArg};
 
 use crate::answer::{RigidHead, Whnf};
 use crate::glance::{Readiness, bare_var_of, is_abstraction, looked_at};

@@ -15,7 +15,7 @@ pub(crate) struct Levels {
 
 impl Model for Levels {
     ghost use Rattle.std.specs.Prelude.{List, ℕ};
-    ghost use Rattle.beta_fragment.specs.LevelList.{levels_view, AreFew};
+    ghost use Rattle.beta_fragment.specs.inside.LevelList.{levels_view, AreFew};
 
     ghost Value = { List ℕ };
 

@@ -16,7 +16,7 @@ ghost use Rattle.ref_terms.specs.unification.Spine.{apply_all};
 ghost use Rattle.beta_fragment.specs.Names.{names as own_names, renamed as renamed_by, AllBelow};
 ghost use Rattle.beta_fragment.specs.Moves.{moved, moved_level, IsMove, AreLevelsOf, IsMovedVar, Moves, Plan, naming};
 ghost use Rattle.level_terms.specs.Values.{value_of, IsAppOf, IsLamOf, IsLevelOf, IsVarOf};
-ghost use Rattle.beta_fragment.specs.Work.{State, Steps, visits, IsReady};
+ghost use Rattle.beta_fragment.specs.inside.Work.{State, Steps, visits, IsReady};
 ghost use Rattle.level_terms.specs.declared.node.TermId.{TermId as Id};
 ghost use Rattle.beta_fragment.specs.declared.renaming.Task.{Task as TaskOf};
 ghost use Rattle.level_terms.specs.declared.node.Node.TheVariants.{Lam as lam_node, App as app_node, Var as var_node, Level as level_node};

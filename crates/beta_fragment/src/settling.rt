@@ -8,8 +8,8 @@ ghost use Rattle.ref_terms.specs.terms.Term.{Term};
 ghost use Rattle.beta_fragment.specs.Names.{AllBelow};
 ghost use Rattle.beta_fragment.specs.HeadForm.{IsHeadForm, AllValidAt, IsAbstraction};
 ghost use Rattle.beta_fragment.specs.Firm.{IsSpine};
-ghost use Rattle.beta_fragment.specs.Cells.{terms_of, term_at};
-ghost use Rattle.beta_fragment.specs.Settled.{IsQuotable, IsUnwound};
+ghost use Rattle.beta_fragment.specs.inside.Cells.{terms_of, term_at};
+ghost use Rattle.beta_fragment.specs.inside.Settled.{IsQuotable, IsUnwound};
 
 use crate::answer::Whnf;
 use crate::cells::{Cell, Cells};

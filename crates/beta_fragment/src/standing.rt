@@ -16,7 +16,7 @@ ghost use Rattle.ref_terms.specs.unification.Spine.{apply_all};
 ghost use Rattle.beta_fragment.specs.HeadForm.{IsHeadForm, ReadsAsLam, FirstUnready, AllValidAt, all_read, rigid_head};
 ghost use Rattle.beta_fragment.specs.Moves.{put_name as put_in};
 ghost use Rattle.beta_fragment.specs.Names.{names};
-ghost use Rattle.beta_fragment.specs.Standing.{HasForm, FoundAs, IsFoundBy};
+ghost use Rattle.beta_fragment.specs.inside.Standing.{HasForm, FoundAs, IsFoundBy};
 
 use crate::answer::{RigidHead, Whnf};
 use crate::glance::{Readiness, is_abstraction, looked_at};

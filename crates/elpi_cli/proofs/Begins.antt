@@ -23,15 +23,15 @@ use Rattle.ref_terms.specs.terms.Term.{Term}
 use Rattle.ref_terms.specs.search.Program as plain
 use Rattle.elpi_cli.specs.declared.status.Status.TheVariants as Status
 use Rattle.elpi_cli.specs.declared.top.Prepared.{Prepared}
-use Rattle.elpi_cli.specs.Prepared.{prepared_output}
+use Rattle.elpi_cli.specs.inside.Prepared.{prepared_output}
 use Rattle.elpi_cli.specs.declared.built.Engine.{Engine}
 use Rattle.elpi_cli.specs.declared.texts.TextStop.{TextStop}
 use Rattle.elpi_cli.specs.declared.texts.TextStop.TheVariants.{Refused, Memory}
 use Rattle.elpi_cli.specs.declared.horn.Span.{Span}
 use Rattle.elpi_cli.specs.declared.horn.Horn.{Horn}
-use Rattle.elpi_cli.specs.HornSearch.{HornState}
-use Rattle.elpi_cli.specs.HornProgram.{span_term, clause_term, program_term, query_term}
-use Rattle.elpi_cli.specs.HornOutput.{horn_events, horn_written}
+use Rattle.elpi_cli.specs.inside.HornSearch.{HornState}
+use Rattle.elpi_cli.specs.inside.HornProgram.{span_term, clause_term, program_term, query_term}
+use Rattle.elpi_cli.specs.inside.HornOutput.{horn_events, horn_written}
 use Rattle.elpi_cli.specs.Reading.{reading}
 use Rattle.elpi_cli.specs.Output.{Output, line_only, searched}
 use Rattle.elpi_cli.specs.Resolved.{program_table, resolved_program, query_table, resolved_query, searched_program, searched_query}

@@ -19,8 +19,8 @@ use Rattle.elpi_cli.specs.declared.horn.Atom.{Atom}
 use Rattle.elpi_cli.specs.declared.horn.Span.{Span}
 use Rattle.elpi_cli.specs.declared.horn.HornClause.{HornClause}
 use Rattle.elpi_cli.specs.declared.horn.Horn.{Horn}
-use Rattle.elpi_cli.specs.HornSearch.{atoms_of, first_fit}
-use Rattle.elpi_cli.specs.HornProgram.{atom_term, span_term, body_term, clause_term, candidate_at, AllThere}
+use Rattle.elpi_cli.specs.inside.HornSearch.{atoms_of, first_fit}
+use Rattle.elpi_cli.specs.inside.HornProgram.{atom_term, span_term, body_term, clause_term, candidate_at, AllThere}
 use Rattle.elpi_cli.proofs.Constants.{constant, args-applied, fill-atom, fill-conjunction, constant_equations, constants_problem, unify-none, unify-constants}
 
 -- the equations of the inputs, of which there are none

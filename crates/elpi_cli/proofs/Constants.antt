@@ -10,7 +10,7 @@ use Rattle.ref_terms.specs.unification.Problem.{Equation, Problem, Solved, Clash
 use Rattle.ref_terms.specs.unification.Rules.{step}
 use Rattle.ref_terms.specs.unification.Unification.{unify}
 use Rattle.ref_terms.proofs.unification.Steps.{unify-goes, unify-ends}
-use Rattle.elpi_cli.specs.HornProgram.{applied, atom_term, conjunction}
+use Rattle.elpi_cli.specs.inside.HornProgram.{applied, atom_term, conjunction}
 use Rattle.elpi_cli.specs.declared.horn.Atom.{Atom}
 
 -- the constant as a term

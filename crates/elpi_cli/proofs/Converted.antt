@@ -11,10 +11,10 @@ use Rattle.lp_resolve.specs.Heads.{args_of}
 use Rattle.lp_resolve.specs.Plain.{plain_term}
 use Rattle.elpi_cli.specs.declared.horn.Atom.{Atom}
 use Rattle.elpi_cli.specs.declared.horn.Span.{Span}
-use Rattle.elpi_cli.specs.HornSearch.{atoms_of}
-use Rattle.elpi_cli.specs.HornProgram.{applied, atom_term, conjunction, is_free}
+use Rattle.elpi_cli.specs.inside.HornSearch.{atoms_of}
+use Rattle.elpi_cli.specs.inside.HornProgram.{applied, atom_term, conjunction, is_free}
 use Rattle.elpi_cli.specs.Forms.{has_free_head, is_word, is_atom, sides, is_goal, is_horn_goal}
-use Rattle.elpi_cli.specs.Conversion.{IsHeadedBy, IsWordOf, constants, AreWordsOf, IsAtomOf, IsLastOf, IsGoalOf}
+use Rattle.elpi_cli.specs.inside.Conversion.{IsHeadedBy, IsWordOf, constants, AreWordsOf, IsAtomOf, IsLastOf, IsGoalOf}
 use Rattle.elpi_cli.proofs.Constants.{constant, IsOpen, apply-open}
 use Rattle.elpi_cli.proofs.PlainTerms.{plain-constant, plain-comma}
 

@@ -22,9 +22,9 @@ use Rattle.elpi_cli.specs.declared.horn.Atom.{Atom}
 use Rattle.elpi_cli.specs.declared.horn.Span.{Span}
 use Rattle.elpi_cli.specs.declared.horn.Horn.{Horn}
 use Rattle.elpi_cli.specs.declared.machine.Event.TheVariants.{Moved, Faulted}
-use Rattle.elpi_cli.specs.HornSearch as horn_search
-use Rattle.elpi_cli.specs.HornSearch.{Choice, HornState, running, ended, over, HornMove, atoms_of, places_for, first_fit, fault_at, arity_at}
-use Rattle.elpi_cli.specs.HornProgram.{atom_term, span_term, conjunction, program_term, places_of, candidate_at, AllThere, IsProgram, IsGoal, AreGoals, IsPlain, IsCall, AreAlternatives, is_free, IsMoveOf}
+use Rattle.elpi_cli.specs.inside.HornSearch as horn_search
+use Rattle.elpi_cli.specs.inside.HornSearch.{Choice, HornState, running, ended, over, HornMove, atoms_of, places_for, first_fit, fault_at, arity_at}
+use Rattle.elpi_cli.specs.inside.HornProgram.{atom_term, span_term, conjunction, program_term, places_of, candidate_at, AllThere, IsProgram, IsGoal, AreGoals, IsPlain, IsCall, AreAlternatives, is_free, IsMoveOf}
 use Rattle.elpi_cli.proofs.Constants.{constant, args-applied}
 use Rattle.elpi_cli.proofs.Calls.{IsResolution, resolved-places}
 use Rattle.elpi_cli.proofs.Places.{modes_from, listed}

@@ -12,9 +12,9 @@ use Rattle.ref_terms.specs.texts.Answer.{answer_block}
 use Rattle.elpi_cli.specs.declared.horn.Horn.{Horn}
 use Rattle.elpi_cli.specs.declared.machine.Event.{Event}
 use Rattle.elpi_cli.specs.declared.machine.Event.TheVariants.{Moved, Answered, Failure, Faulted}
-use Rattle.elpi_cli.specs.HornSearch.{HornState, running, next, atoms_of}
-use Rattle.elpi_cli.specs.HornProgram.{program_term, query_term, IsProgram, IsPlain, IsState, IsEvent}
-use Rattle.elpi_cli.specs.HornOutput.{followed, horn_events, plain_block, ended_after, horn_written}
+use Rattle.elpi_cli.specs.inside.HornSearch.{HornState, running, next, atoms_of}
+use Rattle.elpi_cli.specs.inside.HornProgram.{program_term, query_term, IsProgram, IsPlain, IsState, IsEvent}
+use Rattle.elpi_cli.specs.inside.HornOutput.{followed, horn_events, plain_block, ended_after, horn_written}
 use Rattle.elpi_cli.specs.Output.{line, after_failure, written, searched}
 use Rattle.ref_terms.specs.search.Instance.{fresh_for_variable}
 use Rattle.elpi_cli.specs.declared.horn.Span.{Span}

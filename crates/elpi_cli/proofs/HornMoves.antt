@@ -11,9 +11,9 @@ use Rattle.elpi_cli.specs.declared.horn.Atom.{Atom}
 use Rattle.elpi_cli.specs.declared.horn.Span.{Span}
 use Rattle.elpi_cli.specs.declared.horn.HornClause.{HornClause}
 use Rattle.elpi_cli.specs.declared.horn.Horn.{Horn}
-use Rattle.elpi_cli.specs.HornSearch as horn_search
-use Rattle.elpi_cli.specs.HornSearch.{Choice, HornState, running, ended, over, HornMove, atoms_of, places_for, with_body_at, with_choice, first_fit}
-use Rattle.elpi_cli.specs.HornProgram.{span_term, candidate_at, AllThere, IsGoal, AreGoals, IsPlain, IsBranch, IsCall, AreAlternatives, IsMoveOf}
+use Rattle.elpi_cli.specs.inside.HornSearch as horn_search
+use Rattle.elpi_cli.specs.inside.HornSearch.{Choice, HornState, running, ended, over, HornMove, atoms_of, places_for, with_body_at, with_choice, first_fit}
+use Rattle.elpi_cli.specs.inside.HornProgram.{span_term, candidate_at, AllThere, IsGoal, AreGoals, IsPlain, IsBranch, IsCall, AreAlternatives, IsMoveOf}
 use Rattle.elpi_cli.proofs.Calls.{into, IsResolved}
 
 -- a goal stays under no bindings

@@ -13,9 +13,9 @@ use Rattle.ref_terms.specs.search.Resolve.{Resolved, resolve}
 use Rattle.ref_terms.specs.search.Next.{retaken, resolve_later, constant_modes, retry as reference_retry, by_goal, is_awake, by_waking, next as reference_next}
 use Rattle.elpi_cli.specs.declared.horn.Span.{Span}
 use Rattle.elpi_cli.specs.declared.horn.Horn.{Horn}
-use Rattle.elpi_cli.specs.HornSearch as horn_search
-use Rattle.elpi_cli.specs.HornSearch.{Choice, HornState, running, ended, over, HornMove, atoms_of, first_fit}
-use Rattle.elpi_cli.specs.HornProgram.{program_term, candidate_at, IsProgram, AreGoals, IsBranch, IsCall, AreAlternatives, IsState, IsMoveOf}
+use Rattle.elpi_cli.specs.inside.HornSearch as horn_search
+use Rattle.elpi_cli.specs.inside.HornSearch.{Choice, HornState, running, ended, over, HornMove, atoms_of, first_fit}
+use Rattle.elpi_cli.specs.inside.HornProgram.{program_term, candidate_at, IsProgram, AreGoals, IsBranch, IsCall, AreAlternatives, IsState, IsMoveOf}
 use Rattle.elpi_cli.proofs.Constants.{constant, head-applied}
 use Rattle.elpi_cli.proofs.Calls.{IsResolution, resolved-places}
 use Rattle.elpi_cli.proofs.HornMoves.{goes-into}

@@ -2,7 +2,7 @@
 use Rattle.std.proofs.Common.{◌≡◌, ◌≢◌, ℕ, suc, ◌+◌, ◌<◌, Bool, true, false, cond, nat_eq, List, [], ◌∷◌, ◌++◌, length, take, refl, ap, sym, ◌∙◌, arith, slice_index_or, slice_set}
 use Rattle.std.proofs.lemmas.List.{append-nil, take_more, length-take-le, get_or-set_same, get_or-set_other, get_or_read}
 use Rattle.elpi_cli.specs.declared.horn.HornClause.{HornClause}
-use Rattle.elpi_cli.specs.HornProgram.{places_of}
+use Rattle.elpi_cli.specs.inside.HornProgram.{places_of}
 
 -- the places with one clause more
 pub places-last : (c place : ℕ) (ks : List HornClause) (k : HornClause) → places_of c place (ks ++ k ∷ []) ≡ places_of c place ks ++ cond (nat_eq c k.head.constant) ((place + length ks) ∷ []) []

@@ -14,10 +14,10 @@ use Rattle.elpi_cli.specs.declared.horn.Atom.{Atom}
 use Rattle.elpi_cli.specs.declared.horn.Span.{Span}
 use Rattle.elpi_cli.specs.declared.horn.HornClause.{HornClause}
 use Rattle.elpi_cli.specs.declared.horn.Horn.{Horn}
-use Rattle.elpi_cli.specs.HornSearch.{atoms_of}
-use Rattle.elpi_cli.specs.HornProgram.{atom_term, conjunction, clause_term, places_of, is_free, IsProgram}
+use Rattle.elpi_cli.specs.inside.HornSearch.{atoms_of}
+use Rattle.elpi_cli.specs.inside.HornProgram.{atom_term, conjunction, clause_term, places_of, is_free, IsProgram}
 use Rattle.elpi_cli.specs.Forms.{is_horn_clause, is_clause}
-use Rattle.elpi_cli.specs.Conversion.{Grows, IsGoalOf, IsClauseOf, AreClausesOf, IsProgramOf, IsQueryOf}
+use Rattle.elpi_cli.specs.inside.Conversion.{Grows, IsGoalOf, IsClauseOf, AreClausesOf, IsProgramOf, IsQueryOf}
 use Rattle.elpi_cli.proofs.Converted.{all-append}
 
 -- the test that a body ends within so many atoms

@@ -7,8 +7,8 @@ use Rattle.ref_terms.specs.search.State.{Candidate, of_program}
 use Rattle.ref_terms.specs.search.Candidates.{program_candidates}
 use Rattle.elpi_cli.specs.declared.horn.HornClause.{HornClause}
 use Rattle.elpi_cli.specs.declared.horn.Horn.{Horn}
-use Rattle.elpi_cli.specs.HornSearch.{arity_at}
-use Rattle.elpi_cli.specs.HornProgram.{atom_term, clause_term, places_of, candidate_at, AllThere}
+use Rattle.elpi_cli.specs.inside.HornSearch.{arity_at}
+use Rattle.elpi_cli.specs.inside.HornProgram.{atom_term, clause_term, places_of, candidate_at, AllThere}
 use Rattle.elpi_cli.proofs.Constants.{constant, args-applied, head-applied}
 use Rattle.elpi_cli.proofs.Calls.{clause-at}
 use Rattle.std.proofs.lemmas.List.{length-map}

@@ -4,7 +4,7 @@ use Rattle.std.proofs.lemmas.List.{get_or_default}
 use Rattle.std.proofs.lemmas.Option.{slice_get_read}
 use Rattle.elpi_cli.specs.declared.horn.Span.{Span}
 use Rattle.elpi_cli.specs.declared.horn.Horn.{Horn}
-use Rattle.elpi_cli.specs.HornSearch.{Choice, fits, first_fit, with_choice}
+use Rattle.elpi_cli.specs.inside.HornSearch.{Choice, fits, first_fit, with_choice}
 
 -- the places from an index on begin with the one there
 pub drop-read : (places : List ℕ) (at place : ℕ) → at < length places → place ≡ get_or places at place → drop at places ≡ place ∷ drop (at + 1) places

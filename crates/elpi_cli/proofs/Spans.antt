@@ -6,7 +6,7 @@ use Rattle.ref_terms.specs.search.Reserved.{words, word_of}
 use Rattle.ref_terms.specs.declared.reserved.Reserved.TheVariants.{Nonvar as Nonvar_word, Distinct as Distinct_word}
 use Rattle.ref_terms.specs.search.Formula.{Atom as AtomGoal, word_goal, goal_kind}
 use Rattle.elpi_cli.specs.declared.horn.Atom.{Atom}
-use Rattle.elpi_cli.specs.HornProgram.{atom_term, is_free}
+use Rattle.elpi_cli.specs.inside.HornProgram.{atom_term, is_free}
 use Rattle.elpi_cli.proofs.Constants.{constant, args-applied, head-applied, shape-constant}
 
 -- the first atom of a span, and the others

@@ -10,7 +10,7 @@ use Rattle.elpi_cli.specs.declared.machine.Event.TheVariants.{Moved, Answered, F
 use Rattle.elpi_cli.specs.declared.status.Status.{Status}
 use Rattle.elpi_cli.specs.declared.status.Status.TheVariants.{Done, NoAnswer, Words, Fault, Budget, ReadFault, WriteFault, Memory}
 use Rattle.elpi_cli.specs.Output.{Output, line, line_only, preceded}
-use Rattle.elpi_cli.specs.HornOutput.{horn_events, horn_written, plain_block}
+use Rattle.elpi_cli.specs.inside.HornOutput.{horn_events, horn_written, plain_block}
 use Rattle.elpi_cli.specs.Written.{IsWritten, IsWholePieces}
 use Rattle.elpi_cli.specs.Top.{output, IsRunOf, IsReadFault, IsStatusOf}
 use Rattle.std.specs.Bool.{⊤}
@@ -18,7 +18,7 @@ use Rattle.std.specs.String.{string_bytes}
 use Rattle.elpi_cli.specs.declared.top.Prepared.{Prepared}
 use Rattle.elpi_cli.specs.Reading.{reading}
 use Rattle.elpi_cli.specs.declared.top.Prepared.TheVariants.{Search, Line}
-use Rattle.elpi_cli.specs.Prepared.{Prepares, prepared_output, search_output, status_of}
+use Rattle.elpi_cli.specs.inside.Prepared.{Prepares, prepared_output, search_output, status_of}
 
 -- what the part was to write is the whole output
 exact-run : (words : List (List ℕ)) (files : List FileEntry) (read_failed : Type 0) (out : Output) (status : Status) (bytes : List ℕ) → output words files ≡ out → status ≢ ReadFault → IsWritten out status bytes → IsRunOf words files read_failed status bytes

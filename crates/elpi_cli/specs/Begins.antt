@@ -18,14 +18,14 @@ use Rattle.elpi_cli.specs.declared.horn.Horn.{Horn}
 use Rattle.elpi_cli.specs.declared.built.Engine.{Engine}
 use Rattle.elpi_cli.specs.declared.texts.TextStop.{TextStop}
 use Rattle.elpi_cli.specs.declared.texts.TextStop.TheVariants.{Refused, Memory}
-use Rattle.elpi_cli.specs.HornSearch.{running}
-use Rattle.elpi_cli.specs.HornProgram.{span_term, clause_term, IsProgram}
-use Rattle.elpi_cli.specs.HornOutput.{horn_events, horn_written}
+use Rattle.elpi_cli.specs.inside.HornSearch.{running}
+use Rattle.elpi_cli.specs.inside.HornProgram.{span_term, clause_term, IsProgram}
+use Rattle.elpi_cli.specs.inside.HornOutput.{horn_events, horn_written}
 use Rattle.elpi_cli.specs.Reading.{reading}
 use Rattle.elpi_cli.specs.Output.{line_only, searched}
 use Rattle.elpi_cli.specs.Top.{texts_output}
 use Rattle.elpi_cli.specs.declared.status.Status.TheVariants as Status
-use Rattle.elpi_cli.specs.Conversion.{IsProgramOf, IsQueryOf}
+use Rattle.elpi_cli.specs.inside.Conversion.{IsProgramOf, IsQueryOf}
 use Rattle.elpi_cli.specs.Resolved.{program_table, resolved_program, searched_program, searched_query}
 use Rattle.elpi_cli.specs.Forms.{are_built_as, is_horn_query}
 use Rattle.elpi_cli.specs.Texts.{FileItems, all_items, file_of, grammar_name, grammar_line}

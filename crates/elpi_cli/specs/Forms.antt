@@ -9,7 +9,7 @@ use Rattle.lp_resolve.specs.declared.program.ClauseTree.{ClauseTree}
 use Rattle.lp_resolve.specs.declared.program.Program.{Program}
 use Rattle.lp_resolve.specs.declared.query.Query.{Query}
 use Rattle.lp_resolve.specs.Heads.{constant_of, args_of}
-use Rattle.elpi_cli.specs.HornProgram.{is_free}
+use Rattle.elpi_cli.specs.inside.HornProgram.{is_free}
 use Rattle.elpi_cli.specs.Resolved.{resolved_program}
 
 -- a tree headed by a constant that isn't reserved

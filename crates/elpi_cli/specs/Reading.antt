@@ -10,7 +10,7 @@ use Rattle.elpi_cli.specs.declared.machine.Alternative.{Alternative}
 use Rattle.elpi_cli.specs.declared.machine.Phase.{Phase}
 use Rattle.elpi_cli.specs.declared.machine.Phase.TheVariants.{Running, Ended, Over}
 use Rattle.elpi_cli.specs.declared.machine.Machine.{Machine}
-use Rattle.elpi_cli.specs.HornSearch.{Choice, HornState, running, ended, over, HornMove, places_for, first_fit}
+use Rattle.elpi_cli.specs.inside.HornSearch.{Choice, HornState, running, ended, over, HornMove, places_for, first_fit}
 
 -- the places of the clauses for the atom with this index
 abbrev pub places_at : Horn → ℕ → List ℕ

@@ -1,7 +1,7 @@
 // From resolved programs and queries to the engine, or the refusal of the first text that isn't built.
 ghost use Rattle.std.specs.Prelude.{◌≡◌, IfOk};
 ghost use Rattle.std.specs.String.{string_bytes};
-ghost use Rattle.elpi_cli.specs.HornProgram.{IsProgram};
+ghost use Rattle.elpi_cli.specs.inside.HornProgram.{IsProgram};
 ghost use Rattle.elpi_cli.specs.Resolved.{program_table, resolved_program};
 ghost use Rattle.elpi_cli.specs.Built.{not_yet_line};
 ghost use Rattle.elpi_cli.specs.Begins.{IsRefusal, BuildsProgram, BuildsQuery, BuildsBoth, BuildsEngine};

@@ -2,9 +2,9 @@
 ghost use Rattle.std.specs.Prelude.{◌≡◌, ℕ, ◌<◌, [], false, None, Some, length, slice_index_or, IfOk, MatchOption, OnOk};
 ghost use Rattle.std.specs.List.{list_all};
 ghost use Rattle.lp_resolve.specs.Heads.{constant_of, args_of};
-ghost use Rattle.elpi_cli.specs.HornProgram.{places_of, IsProgram};
+ghost use Rattle.elpi_cli.specs.inside.HornProgram.{places_of, IsProgram};
 ghost use Rattle.elpi_cli.specs.Forms.{has_free_head, is_word, is_atom, sides, is_horn_goal, is_horn_clause, is_clause, is_horn_query};
-ghost use Rattle.elpi_cli.specs.Conversion.{IsHeadedBy, IsWordOf, AreWordsOf, IsAtomOf, IsLastOf, IsGoalOf, IsClauseOf, AreClausesOf, IsProgramOf, IsQueryOf};
+ghost use Rattle.elpi_cli.specs.inside.Conversion.{IsHeadedBy, IsWordOf, AreWordsOf, IsAtomOf, IsLastOf, IsGoalOf, IsClauseOf, AreClausesOf, IsProgramOf, IsQueryOf};
 
 use crate::horn::{Atom, Horn, HornClause, Span};
 use lp_parser::Item;

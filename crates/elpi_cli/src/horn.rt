@@ -1,6 +1,6 @@
 // Variable-free Horn programs, as the search runs them.
 ghost use Rattle.std.specs.Prelude.{◌≡◌, ◌<◌, length, IfSome};
-ghost use Rattle.elpi_cli.specs.HornSearch.{atoms_of, places_for, arity_at, fits};
+ghost use Rattle.elpi_cli.specs.inside.HornSearch.{atoms_of, places_for, arity_at, fits};
 ghost use Rattle.elpi_cli.specs.Reading.{places_at, IsFound};
 
 use ref_terms::Sequence;

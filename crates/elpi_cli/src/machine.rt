@@ -1,6 +1,6 @@
 // The search over whole copied branches.
 ghost use Rattle.std.specs.Prelude.{◌≡◌, ◌+◌, ◌<◌, ◌≤◌, [], ◌∷◌, length, drop, List, Some, IfOk, IfSome, OnOk, slice_get, ℕ};
-ghost use Rattle.elpi_cli.specs.HornSearch.{atoms_of, fault_at, places_for, with_choice, with_body_at};
+ghost use Rattle.elpi_cli.specs.inside.HornSearch.{atoms_of, fault_at, places_for, with_choice, with_body_at};
 ghost use Rattle.elpi_cli.specs.Reading.{IsFoundFor, places_at, choices_of};
 
 use crate::horn::{Atom, Horn, Span};
@@ -44,7 +44,7 @@ pub struct Machine {
 }
 
 impl Machine {
-    ghost use Rattle.elpi_cli.specs.HornSearch.{running, next, entered, resolved, retry, goal_move, call};
+    ghost use Rattle.elpi_cli.specs.inside.HornSearch.{running, next, entered, resolved, retry, goal_move, call};
     ghost use Rattle.elpi_cli.specs.Reading.{reading, IsMove};
 
     /// The search whose one goal is this span.

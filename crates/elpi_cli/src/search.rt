@@ -3,7 +3,7 @@ ghost use Rattle.std.specs.Prelude.{◌≡◌, ◌≢◌, ◌++◌, ◌∷◌, [
 ghost use Rattle.std.specs.String.{string_bytes};
 ghost use Rattle.elpi_cli.specs.Output.{Output, line, line_only, preceded};
 ghost use Rattle.ref_terms.specs.search.Fault.{fault_name};
-ghost use Rattle.elpi_cli.specs.HornOutput.{horn_events, followed, horn_written, plain_block};
+ghost use Rattle.elpi_cli.specs.inside.HornOutput.{horn_events, followed, horn_written, plain_block};
 ghost use Rattle.elpi_cli.specs.Written.{Emits, Progress, all_of};
 ghost use Rattle.elpi_cli.specs.Reading.{reading};
 ghost use Rattle.elpi_cli.specs.declared.machine.Event.{Event};

@@ -12,7 +12,7 @@ ghost use Rattle.elpi_cli.specs.Output.{line_only};
 ghost use Rattle.elpi_cli.specs.Begins.{IsRefusal, BeginsRun};
 ghost use Rattle.elpi_cli.specs.Top.{output, files_output, texts_output, word_at, known_files, IsRunOf, IsStatusOf};
 ghost use Rattle.elpi_cli.specs.Causes.{ComesBy, ComesExactlyBy, IsComplete, IsDone, IsNoAnswer, IsBadWord, IsRefused, IsFault, IsOutOfSteps, IsMissing, IsTooLong};
-ghost use Rattle.elpi_cli.specs.Prepared.{Prepares, Loads, prepared_output, status_of, IsFileStatus, IsTextStatus};
+ghost use Rattle.elpi_cli.specs.inside.Prepared.{Prepares, Loads, prepared_output, status_of, IsFileStatus, IsTextStatus};
 
 use crate::built::{Engine, build_engine};
 use crate::horn::Horn;

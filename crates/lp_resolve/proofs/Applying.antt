@@ -3,7 +3,7 @@ use Rattle.std.proofs.Common.{◌≡◌, ◌∙◌, ℕ, zero, suc, Bool, true, 
 use Rattle.ref_terms.specs.terms.Term.{Term, Head, Con, Int, Str, Name, Bound, Var, Lam, At, App}
 use Rattle.ref_terms.specs.terms.Index.{sub, first}
 use Rattle.ref_terms.specs.terms.Text.{text_apply}
-use Rattle.lp_resolve.specs.Build.{bound_index}
+use Rattle.lp_resolve.specs.inside.Build.{bound_index}
 use Rattle.lp_resolve.proofs.Shapes.{IsNoName}
 
 -- a bound name is put in

@@ -7,7 +7,7 @@ use Rattle.lp_resolve.proofs.Shapes.{fit-last}
 use Rattle.ref_terms.specs.terms.Term.{Term, Lam, At, App}
 use Rattle.ref_terms.specs.terms.Text.{text_apply, text_apply_all}
 use Rattle.lp_resolve.specs.Trees.{with_arguments, Shape, shape, are_none, all_fit}
-use Rattle.lp_resolve.specs.Build.{bound_index}
+use Rattle.lp_resolve.specs.inside.Build.{bound_index}
 
 -- an application is no bound name
 pub applied-never : (g a : Term) (ts : List Term) → bound_index (with_arguments (App g a) ts) ≡ None

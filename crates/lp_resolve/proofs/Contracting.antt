@@ -6,8 +6,8 @@ use Rattle.ref_terms.specs.terms.Term.{Term, Head, Con, Int, Str, Name, Bound, V
 use Rattle.ref_terms.specs.terms.Index.{sub, sub_head, first, under, shift, next}
 use Rattle.ref_terms.specs.terms.Eta.{partial, partial_head, up_partial, both, previous, on_index, lower, eta}
 use Rattle.ref_terms.specs.terms.Text.{text_apply}
-use Rattle.lp_resolve.specs.Replacing.{replaced, replacing}
-use Rattle.lp_resolve.specs.Build.{bound_index}
+use Rattle.lp_resolve.specs.inside.Replacing.{replaced, replacing}
+use Rattle.lp_resolve.specs.inside.Build.{bound_index}
 
 -- lowering is replacing by nothing
 pub lower-replacing : (t : Term) → partial (replacing 0 None) t ≡ lower t

@@ -3,7 +3,7 @@ use Rattle.std.proofs.Common.{◌≡◌, ◌∙◌, ℕ, suc, ◌-◌, ◌<◌, 
 use Rattle.std.specs.Prelude.{position}
 use Rattle.std.specs.Option.{option_map}
 use Rattle.lp_resolve.specs.declared.scope.Binder.{Binder}
-use Rattle.lp_resolve.specs.Scopes.{words_of, level_of}
+use Rattle.lp_resolve.specs.inside.Scopes.{words_of, level_of}
 use Rattle.lp_resolve.proofs.Positions.{later, position-cons}
 
 -- a level is below the number of binders

@@ -6,7 +6,7 @@ use Rattle.ref_terms.specs.terms.Term.{Head, Term, Con, Int, Str, Name, Bound, V
 use Rattle.ref_terms.specs.terms.Index.{ren, ren_head, up, next, shift, sub, sub_head, under, first}
 use Rattle.ref_terms.specs.terms.Eta.{partial, partial_head, up_partial, both, previous, lower, on_index, eta, lam, lam_of}
 use Rattle.ref_terms.specs.terms.Text.{bare, text_apply, text_apply_all}
-use Rattle.lp_resolve.specs.Named.{IsHeadNamed, IsNamed}
+use Rattle.lp_resolve.specs.inside.Named.{IsHeadNamed, IsNamed}
 
 -- more symbols
 pub named-more : (n m : ℕ) (t : Term) → n ≤ m → IsNamed n t → IsNamed m t

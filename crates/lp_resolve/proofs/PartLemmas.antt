@@ -9,7 +9,7 @@ use Rattle.lp_resolve.specs.Reading.{Reading}
 use Rattle.lp_resolve.specs.Reads.{IsRead}
 use Rattle.lp_resolve.specs.Treed.{tree_of}
 use Rattle.lp_resolve.specs.ProgramReading.{Read, read_tree, read_variable}
-use Rattle.lp_resolve.specs.ReadsAs.{ReadsAs}
+use Rattle.lp_resolve.specs.inside.ReadsAs.{ReadsAs}
 use Rattle.lp_resolve.proofs.BeginsLemmas.{number-later}
 use Rattle.lp_resolve.proofs.TreeOf.{tree_of-as_term}
 

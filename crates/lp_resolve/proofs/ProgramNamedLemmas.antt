@@ -22,7 +22,7 @@ use Rattle.lp_resolve.specs.Variables.{Met, nothing_met, met_word}
 use Rattle.lp_resolve.specs.Reading.{reading}
 use Rattle.lp_resolve.specs.Treed.{tree_of}
 use Rattle.lp_resolve.specs.Trees.{as_term}
-use Rattle.lp_resolve.specs.Named.{IsNamed}
+use Rattle.lp_resolve.specs.inside.Named.{IsNamed}
 use Rattle.lp_resolve.specs.Texts.{texts_of}
 use Rattle.lp_resolve.specs.ProgramTexts.{word_texts, term_texts, head_texts, pair_texts, rule_texts, block_texts, item_texts, program_texts}
 use Rattle.lp_resolve.specs.declared.program.ClauseTree.{ClauseTree}
@@ -30,7 +30,7 @@ use Rattle.lp_resolve.specs.declared.program.PairTree.{PairTree}
 use Rattle.lp_resolve.specs.declared.program.PredLine.{PredLine}
 use Rattle.lp_resolve.specs.declared.placed.PlacedHead.{PlacedHead}
 use Rattle.lp_resolve.specs.ProgramReading.{Read, read_all, read_option, read_variable, read_tree, read_head, read_pair, symbol_of, clause_of, head_and_body, rule_of, lines_of, item_lines, item_clauses, item_rules, program_of}
-use Rattle.lp_resolve.specs.ProgramNamed.{IsTreeNamed, IsClauseNamed, IsRuleNamed, IsProgramNamed}
+use Rattle.lp_resolve.specs.inside.ProgramNamed.{IsTreeNamed, IsClauseNamed, IsRuleNamed, IsProgramNamed}
 use Rattle.lp_resolve.proofs.TreeForms.{term-ap}
 use Rattle.lp_resolve.proofs.TreeOf.{as_term-tree_of}
 use Rattle.lp_resolve.proofs.FormedLemmas.{IsParted, alone, two, is_parted}

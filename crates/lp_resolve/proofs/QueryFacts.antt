@@ -9,7 +9,7 @@ use Rattle.lp_resolve.specs.declared.query.QueryVar.{QueryVar}
 use Rattle.lp_resolve.specs.declared.variable.Variable.{Variable}
 use Rattle.lp_resolve.specs.Symbols.{reserved_names, Begins}
 use Rattle.lp_resolve.specs.Texts.{texts_of}
-use Rattle.lp_resolve.specs.Named.{AreVarsNamed, IsQueryNamed}
+use Rattle.lp_resolve.specs.inside.Named.{AreVarsNamed, IsQueryNamed}
 use Rattle.lp_resolve.specs.Variables.{Met, nothing_met}
 use Rattle.lp_resolve.specs.Trees.{as_term, IsFormed}
 use Rattle.lp_resolve.specs.Treed.{tree_of}

@@ -17,7 +17,7 @@ use Rattle.lp_resolve.specs.declared.variable.Variable.{Variable}
 use Rattle.lp_resolve.specs.Symbols.{number_of, interned, interned_all, Begins}
 use Rattle.lp_resolve.specs.Texts.{texts_of, texts_at, texts_of_tail}
 use Rattle.lp_resolve.specs.Variables.{Met, is_of, variable, with_word, with_hole}
-use Rattle.lp_resolve.specs.Named.{IsNamed}
+use Rattle.lp_resolve.specs.inside.Named.{IsNamed}
 use Rattle.lp_resolve.specs.Reading.{Reading, Readings, Reader, constant, binder_of, free_word, word_by, word, read_all, application, abstraction, reserved, operator_name, quantifier_name, list_term, tail_of, listing, reading_at, reading}
 use Rattle.lp_resolve.proofs.NamedTerms.{named-more, named-apply, named-lam}
 use Rattle.lp_resolve.proofs.ReadingForms.{flat-images, interned-append, begins-same, begins-twice}

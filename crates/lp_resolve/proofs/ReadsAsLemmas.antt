@@ -6,7 +6,7 @@ use Rattle.lp_resolve.specs.Symbols.{interned, interned_all}
 use Rattle.lp_resolve.specs.Symbols.{Begins}
 use Rattle.lp_resolve.specs.Variables.{Met}
 use Rattle.lp_resolve.specs.ProgramReading.{Read, read_all, read_option}
-use Rattle.lp_resolve.specs.ReadsAs.{ReadsAs}
+use Rattle.lp_resolve.specs.inside.ReadsAs.{ReadsAs}
 use Rattle.lp_resolve.proofs.BeginsLemmas.{begins-refl, begins-trans}
 
 -- texts after others

@@ -4,9 +4,9 @@ use Rattle.std.specs.Option.{option_map}
 use Rattle.ref_terms.specs.terms.Term.{Term, Head, Con, Int, Str, Name, Bound, Var, Lam, At, App}
 use Rattle.ref_terms.specs.terms.Index.{sub, first, under, shift, next}
 use Rattle.ref_terms.specs.terms.Eta.{partial, partial_head, up_partial, both}
-use Rattle.lp_resolve.specs.Replacing.{replaced, replacing}
+use Rattle.lp_resolve.specs.inside.Replacing.{replaced, replacing}
 use Rattle.lp_resolve.specs.Trees.{with_arguments}
-use Rattle.lp_resolve.specs.Build.{all_terms, with_first}
+use Rattle.lp_resolve.specs.inside.Build.{all_terms, with_first}
 
 -- a name that is bound further in
 pub replacing-below : (d : ℕ) (o : Option ℕ) (i : ℕ) → i < d → replacing d o i ≡ Some i

@@ -14,7 +14,7 @@ use Rattle.lp_resolve.specs.Places.{first_token}
 use Rattle.lp_resolve.specs.Symbols.{Begins}
 use Rattle.lp_resolve.specs.Variables.{Met, nothing_met}
 use Rattle.lp_resolve.specs.ProgramReading.{Read, read_all, read_option, read_variable, read_tree, read_pair, read_head, read_parts, rule_with, rule_of}
-use Rattle.lp_resolve.specs.ReadsAs.{ReadsAs}
+use Rattle.lp_resolve.specs.inside.ReadsAs.{ReadsAs}
 use Rattle.lp_resolve.proofs.BeginsLemmas.{begins-trans}
 
 -- a pair, after its left word what is left

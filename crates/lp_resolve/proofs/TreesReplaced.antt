@@ -8,7 +8,7 @@ use Rattle.ref_terms.specs.declared.tree.Tree.{Tree}
 use Rattle.ref_terms.specs.declared.tree.Tree.TheVariants.{Lam, Ap}
 use Rattle.ref_terms.specs.declared.tree.Head.{Head}
 use Rattle.lp_resolve.specs.Trees.{as_term, head_term, with_arguments}
-use Rattle.lp_resolve.specs.Build.{all_terms}
+use Rattle.lp_resolve.specs.inside.Build.{all_terms}
 use Rattle.lp_resolve.proofs.Replacing.{with_all, partial-arguments}
 use Rattle.lp_resolve.proofs.TreeForms.{term-lam, term-ap}
 

@@ -1,22 +1,16 @@
-pub mod Build
 pub mod Gathered
 pub mod Heads
 pub mod Laws
-pub mod Named
 pub mod Occurrences
 pub mod Places
 pub mod Plain
 pub mod Preds
-pub mod ProgramNamed
 pub mod ProgramReading
 pub mod ProgramTexts
 pub mod Queries
 pub mod Reading
 pub mod Reads
-pub mod ReadsAs
 pub mod Rebuilt
-pub mod Replacing
-pub mod Scopes
 pub mod StaticRules
 pub mod Symbols
 pub mod Texts
@@ -24,3 +18,4 @@ pub mod Treed
 pub mod Trees
 pub mod Variables
 pub mod WellFormed
+pub mod inside

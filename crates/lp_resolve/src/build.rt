@@ -5,9 +5,9 @@ ghost use Rattle.ref_terms.specs.terms.Text.{text_apply, text_apply_all};
 ghost use Rattle.ref_terms.specs.terms.Eta.{partial, lower, eta, lam};
 ghost use Rattle.ref_terms.specs.terms.Index.{sub, first};
 ghost use Rattle.ref_terms.specs.terms.Term as term;
-ghost use Rattle.lp_resolve.specs.Replacing.{replacing};
+ghost use Rattle.lp_resolve.specs.inside.Replacing.{replacing};
 ghost use Rattle.lp_resolve.specs.Trees.{as_term, head_term, with_arguments, shape, head_shape, all_fit};
-ghost use Rattle.lp_resolve.specs.Build.{bound_index, all_terms};
+ghost use Rattle.lp_resolve.specs.inside.Build.{bound_index, all_terms};
 
 use ref_terms::{Args, Head, Sequence, Tree};
 use sqlite_items::Boxed;

@@ -3,7 +3,7 @@ ghost use Rattle.std.specs.Prelude.{◌≡◌, [], ◌∷◌, IfOk, OnOk};
 ghost use Rattle.lp_resolve.specs.Symbols.{Begins, interned_all};
 ghost use Rattle.lp_resolve.specs.Texts.{texts_of};
 ghost use Rattle.lp_resolve.specs.ProgramReading.{read_tree, read_variable};
-ghost use Rattle.lp_resolve.specs.ReadsAs.{ReadsAs};
+ghost use Rattle.lp_resolve.specs.inside.ReadsAs.{ReadsAs};
 
 use crate::read::{read_term, read_variable};
 use crate::symbols::Symbols;

@@ -9,7 +9,7 @@ ghost use Rattle.lp_resolve.specs.Variables.{number_in, met_word};
 ghost use Rattle.lp_resolve.specs.Reading.{Reading, reading, constant, word, application, reserved, operator_name, quantifier_name, list_term};
 ghost use Rattle.lp_resolve.specs.Reads.{IsReadBy, IsRead, AreRead};
 ghost use Rattle.lp_resolve.specs.Queries.{query_var, query_of, IsFormedQuery};
-ghost use Rattle.lp_resolve.specs.Named.{IsQueryNamed};
+ghost use Rattle.lp_resolve.specs.inside.Named.{IsQueryNamed};
 
 use crate::build::{abstraction, applied_all};
 use crate::query::{Query, QueryVar, QueryVars};

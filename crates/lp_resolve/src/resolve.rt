@@ -4,7 +4,7 @@ ghost use Rattle.lp_resolve.specs.Symbols.{Begins, interned_all};
 ghost use Rattle.lp_resolve.specs.ProgramTexts.{program_texts};
 ghost use Rattle.lp_resolve.specs.ProgramReading.{program_of};
 ghost use Rattle.lp_resolve.specs.WellFormed.{IsWellFormed};
-ghost use Rattle.lp_resolve.specs.ProgramNamed.{IsProgramNamed};
+ghost use Rattle.lp_resolve.specs.inside.ProgramNamed.{IsProgramNamed};
 
 use crate::gather::gather;
 use crate::items::{ItemLists, read_items};

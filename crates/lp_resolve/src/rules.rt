@@ -5,7 +5,7 @@ ghost use Rattle.lp_resolve.specs.Texts.{texts_of};
 ghost use Rattle.lp_resolve.specs.Places.{first_token};
 ghost use Rattle.lp_resolve.specs.ProgramTexts.{head_texts, word_texts, pair_texts, term_texts, rule_texts};
 ghost use Rattle.lp_resolve.specs.ProgramReading.{read_option, read_all, read_variable, read_tree, read_head, read_pair, read_parts, rule_with, rule_of};
-ghost use Rattle.lp_resolve.specs.ReadsAs.{ReadsAs};
+ghost use Rattle.lp_resolve.specs.inside.ReadsAs.{ReadsAs};
 
 use crate::clauses::first_token;
 use crate::parts::{read_part, read_word};

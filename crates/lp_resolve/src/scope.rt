@@ -28,7 +28,7 @@ impl Model for Scope {
 
     ghost Value = { List ℕ };
 
-    ghost use Rattle.lp_resolve.specs.Scopes.{words_of, IsScope};
+    ghost use Rattle.lp_resolve.specs.inside.Scopes.{words_of, IsScope};
 
     ghost view = { λ scope. words_of (reverse scope.binders.items) };
 

@@ -11,8 +11,8 @@ use Rattle.ref_terms.specs.unification.Rules.{head_eq, equations_of, two_rigid}
 use Rattle.beta_fragment.specs.Names.{names}
 use Rattle.beta_fragment.specs.HeadForm.{all_read, AllValidAt}
 use Rattle.pattern_unify.specs.declared.equation.Equation.{Equation}
-use Rattle.pattern_unify.specs.Equations.{equation_at, equations_at, problem_at, arguments_of, AllValidEquations}
-use Rattle.pattern_unify.specs.Turns.{GoesOn}
+use Rattle.pattern_unify.specs.inside.Equations.{equation_at, equations_at, problem_at, arguments_of, AllValidEquations}
+use Rattle.pattern_unify.specs.inside.Turns.{GoesOn}
 use Rattle.pattern_unify.proofs.EquationLemmas.{equations_valid-append, equations_valid-reverse, arguments-valid, arguments-at}
 
 -- as many arguments

@@ -15,7 +15,7 @@ use Rattle.ref_terms.specs.unification.Closing.{close_all, names_below}
 use Rattle.beta_fragment.specs.Names.{names, renamed, AreDistinct}
 use Rattle.beta_fragment.proofs.NamelessLemmas.{nameless-read}
 use Rattle.level_terms.proofs.ReadLemmas.{read-built, read-follows}
-use Rattle.pattern_unify.specs.Binding.{HasPositions, IsNameless}
+use Rattle.pattern_unify.specs.inside.Binding.{HasPositions, IsNameless}
 use Rattle.pattern_unify.specs.Bound.{NamesAmong}
 use Rattle.pattern_unify.proofs.AbsentLemmas.{absent-fill}
 use Rattle.pattern_unify.proofs.CloseNames.{rename, rename-nameless, close-positions}

@@ -14,8 +14,8 @@ use Rattle.level_terms.proofs.ReadLemmas.{valid-below}
 use Rattle.pattern_unify.specs.declared.equation.Equation.{Equation}
 use Rattle.ref_terms.specs.search.Branch.{bound}
 use Rattle.pattern_unify.specs.Bound.{IsBound}
-use Rattle.pattern_unify.specs.Equations.{equation_at, equations_at, IsValidEquation, AllValidEquations}
-use Rattle.pattern_unify.specs.Turns.{GoesOn}
+use Rattle.pattern_unify.specs.inside.Equations.{equation_at, equations_at, IsValidEquation, AllValidEquations}
+use Rattle.pattern_unify.specs.inside.Turns.{GoesOn}
 use Rattle.pattern_unify.proofs.EquationLemmas.{equations-same, equations_valid-kept}
 
 map-after : (f : problem.Equation → problem.Equation) (k : Equation → problem.Equation) (work : List Equation) → map (λ e. f (k e)) work ≡ map f (map k work)

@@ -15,7 +15,7 @@ use Rattle.ref_terms.specs.lemmas.OccursLemmas.{fill_at}
 use Rattle.ref_terms.specs.lemmas.ReadyFacts.{ready-fill}
 use Rattle.ref_terms.specs.unification.Closing.{closing, close, close_all, up_from, names_below}
 use Rattle.beta_fragment.specs.Names.{AreDistinct}
-use Rattle.pattern_unify.specs.Binding.{AreFirst, HasPositions, IsNameless}
+use Rattle.pattern_unify.specs.inside.Binding.{AreFirst, HasPositions, IsNameless}
 use Rattle.pattern_unify.specs.Bound.{NamesAmong}
 use Rattle.pattern_unify.proofs.OccursLemmas.{or_left, or_right}
 

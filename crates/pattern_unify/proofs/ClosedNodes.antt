@@ -20,7 +20,7 @@ use Rattle.beta_fragment.proofs.EnterLemmas.{body-entered}
 use Rattle.level_terms.proofs.MakeLemmas.{and_both, below_true}
 use Rattle.level_terms.proofs.ReadLemmas.{valid-below}
 use Rattle.pattern_unify.specs.Bound.{IsBound, LeavesOthers}
-use Rattle.pattern_unify.specs.Closed.{ClosesAlike, closed_at}
+use Rattle.pattern_unify.specs.inside.Closed.{ClosesAlike, closed_at}
 use Rattle.pattern_unify.proofs.ClosedTerms.{assigned-closed, closed-applied}
 use Rattle.pattern_unify.proofs.KeepNodes.{node-made}
 use Rattle.pattern_unify.proofs.KeptLemmas.{others-after}

@@ -15,7 +15,7 @@ use Rattle.beta_fragment.specs.Names.{names}
 use Rattle.beta_fragment.specs.HeadForm.{all_read, AllValidAt}
 use Rattle.level_terms.proofs.ReadLemmas.{valid-below}
 use Rattle.pattern_unify.specs.declared.equation.Equation.{Equation}
-use Rattle.pattern_unify.specs.Equations.{equation_at, equations_at, problem_at, arguments_of, IsValidEquation, AllValidEquations}
+use Rattle.pattern_unify.specs.inside.Equations.{equation_at, equations_at, problem_at, arguments_of, IsValidEquation, AllValidEquations}
 
 -- the equation that was put last is the first one
 pub equations-last : (g : Graph) (work : List Equation) (e : Equation) → equations_at g (work ++ e ∷ []) ≡ equation_at g e ∷ equations_at g work

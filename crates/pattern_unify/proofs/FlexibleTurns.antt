@@ -22,8 +22,8 @@ use Rattle.level_terms.proofs.ReadLemmas.{valid-below}
 use Rattle.pattern_unify.specs.declared.equation.Equation.{Equation}
 use Rattle.pattern_unify.specs.declared.equation.Turn.{Turn}
 use Rattle.pattern_unify.specs.Bound.{IsBound}
-use Rattle.pattern_unify.specs.Equations.{equation_at, equations_at, problem_at, IsValidEquation, AllValidEquations}
-use Rattle.pattern_unify.specs.Turns.{GoesOn, IsTurn}
+use Rattle.pattern_unify.specs.inside.Equations.{equation_at, equations_at, problem_at, IsValidEquation, AllValidEquations}
+use Rattle.pattern_unify.specs.inside.Turns.{GoesOn, IsTurn}
 use Rattle.pattern_unify.proofs.BoundEquations.{goes-bound, goes-bound_twice}
 use Rattle.pattern_unify.proofs.EquationLemmas.{equations-last, equations_valid-last, first-kept}
 use Rattle.pattern_unify.proofs.TurnLemmas.{goes-same, turn-same, seen-after}

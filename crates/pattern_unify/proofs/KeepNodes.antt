@@ -22,7 +22,7 @@ use Rattle.ref_terms.specs.lemmas.NameLemmas.{or_both}
 use Rattle.beta_fragment.specs.Names.{AllBelow}
 use Rattle.level_terms.proofs.MakeLemmas.{and_both, newest, below_true}
 use Rattle.beta_fragment.proofs.MoveLemmas.{node-after}
-use Rattle.pattern_unify.specs.Keeping.{AreLevels, IsVarOver, IsSpineOf}
+use Rattle.pattern_unify.specs.inside.Keeping.{AreLevels, IsVarOver, IsSpineOf}
 use Rattle.pattern_unify.proofs.ReachedLemmas.{full, level-tree}
 
 -- what was there is there in a heap that grew

@@ -11,7 +11,7 @@ use Rattle.beta_fragment.specs.Names.{names}
 use Rattle.beta_fragment.proofs.EnterLemmas.{names-places}
 use Rattle.beta_fragment.proofs.MoveLemmas.{assigned-before}
 use Rattle.pattern_unify.specs.Bound.{IsBound}
-use Rattle.pattern_unify.specs.Keeping.{IsVarOver}
+use Rattle.pattern_unify.specs.inside.Keeping.{IsVarOver}
 use Rattle.pattern_unify.proofs.KeepNodes.{over-reads, over-unreached}
 use Rattle.pattern_unify.proofs.KeptLemmas.{bound-after}
 

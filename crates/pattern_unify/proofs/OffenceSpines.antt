@@ -24,8 +24,8 @@ use Rattle.beta_fragment.specs.Quoted.{AllNamesBelow}
 use Rattle.beta_fragment.proofs.FirmLemmas.{apply-plain, apply_all-plain, apply_all-head}
 use Rattle.pattern_unify.specs.declared.offence.Verdict as code
 use Rattle.pattern_unify.specs.declared.offence.Verdict.TheVariants as found
-use Rattle.pattern_unify.specs.Searching.{Search, is_known, known_at, unknown_from, at_place, place_says, verdict_on, first_verdict, search_size, subterm}
-use Rattle.pattern_unify.specs.Verdicts.{verdict_of}
+use Rattle.pattern_unify.specs.inside.Searching.{Search, is_known, known_at, unknown_from, at_place, place_says, verdict_on, first_verdict, search_size, subterm}
+use Rattle.pattern_unify.specs.inside.Verdicts.{verdict_of}
 use Rattle.pattern_unify.proofs.OffenceOpened.{as_term, offence-opened}
 
 -- the first verdict decides

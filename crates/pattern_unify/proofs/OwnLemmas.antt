@@ -22,10 +22,10 @@ use Rattle.beta_fragment.proofs.EnterLemmas.{names-places}
 use Rattle.pattern_unify.specs.declared.equation.Equation.{Equation}
 use Rattle.pattern_unify.specs.declared.side.Side.{Side}
 use Rattle.pattern_unify.specs.declared.side.Side.TheVariants.{Abstraction, Redex, Rigid, Flexible}
-use Rattle.pattern_unify.specs.Equations.{equation_at, equations_at, problem_at}
-use Rattle.pattern_unify.specs.Own.{IsOwn}
-use Rattle.pattern_unify.specs.Sides.{shape_at, IsRigid}
-use Rattle.pattern_unify.specs.Turns.{rule_at}
+use Rattle.pattern_unify.specs.inside.Equations.{equation_at, equations_at, problem_at}
+use Rattle.pattern_unify.specs.inside.Own.{IsOwn}
+use Rattle.pattern_unify.specs.inside.Sides.{shape_at, IsRigid}
+use Rattle.pattern_unify.specs.inside.Turns.{rule_at}
 use Rattle.pattern_unify.proofs.KeepNodes.{node-kept}
 use Rattle.pattern_unify.proofs.KeptLemmas.{open-kept}
 use Rattle.pattern_unify.proofs.SearchLemmas.{below_false}

@@ -32,8 +32,8 @@ use Rattle.pattern_unify.specs.Bound.{IsOpen}
 use Rattle.pattern_unify.specs.declared.offence.Verdict.{Verdict}
 use Rattle.pattern_unify.specs.declared.offence.Verdict.TheVariants.{Fine, Redex, Scope, Itself, Foreign, Dropped}
 use Rattle.pattern_unify.specs.declared.offence.Subterm.{Subterm}
-use Rattle.pattern_unify.specs.Searching.{Search, is_known, known_at, unknown_from, is_fine, at_place, head_says, place_says, spine_says, verdict_on, first_verdict, AllSearchable, search_size, subterm, LooksAt}
-use Rattle.pattern_unify.specs.Verdicts.{verdict_of, DropsAssignable}
+use Rattle.pattern_unify.specs.inside.Searching.{Search, is_known, known_at, unknown_from, is_fine, at_place, head_says, place_says, spine_says, verdict_on, first_verdict, AllSearchable, search_size, subterm, LooksAt}
+use Rattle.pattern_unify.specs.inside.Verdicts.{verdict_of, DropsAssignable}
 use Rattle.pattern_unify.proofs.OffenceSpines.{later-none, later-later, known-at, lam-verdict, size-spine, arguments_verdict, spine-verdict, redex-verdict, rigid-arguments, other-arguments, size-arguments, pattern-is_names, names-verdict}
 
 -- a valid node has no name from its depth on

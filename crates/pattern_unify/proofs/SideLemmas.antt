@@ -18,7 +18,7 @@ use Rattle.beta_fragment.specs.declared.answer.Whnf.TheVariants.{Lam, Rigid, Fle
 use Rattle.beta_fragment.specs.Names.{names}
 use Rattle.beta_fragment.specs.HeadForm.{IsHeadForm, IsAbstraction, all_read, rigid_head}
 use Rattle.beta_fragment.proofs.MoveLemmas.{above_from}
-use Rattle.pattern_unify.specs.Sides.{shape_at, side_by, variable_by, IsSideAt}
+use Rattle.pattern_unify.specs.inside.Sides.{shape_at, side_by, variable_by, IsSideAt}
 
 -- an application before more arguments
 app-shape : (m : ℕ) (xs : List Term) (f a : Term) → shape m (apply_all (term.App f a) xs) ≡ headed m (head_of f) ((args_of f ++ a ∷ []) ++ xs)

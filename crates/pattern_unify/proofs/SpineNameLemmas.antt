@@ -23,7 +23,7 @@ use Rattle.beta_fragment.specs.Names.{names}
 use Rattle.beta_fragment.specs.HeadForm.{IsHeadForm, IsAbstraction, AllValidAt, all_read, rigid_head}
 use Rattle.beta_fragment.proofs.HeadLemmas.{drop-whole}
 use Rattle.beta_fragment.proofs.QuotableLemmas.{nameless-valid}
-use Rattle.pattern_unify.specs.SpineNames.{bare_level, form_name}
+use Rattle.pattern_unify.specs.inside.SpineNames.{bare_level, form_name}
 
 -- an application is no name, whatever follows
 app-no_name : (xs : List Term) (f a : Term) → spine_name (apply_all (term.App f a) xs) ≡ None

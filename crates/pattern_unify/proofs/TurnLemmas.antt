@@ -23,9 +23,9 @@ use Rattle.pattern_unify.specs.declared.equation.Turn.TheVariants as turn
 use Rattle.pattern_unify.specs.declared.side.Side.{Side}
 use Rattle.pattern_unify.specs.declared.side.Side.TheVariants.{Abstraction, Redex, Rigid, Flexible}
 use Rattle.ref_terms.specs.search.Branch.{bound}
-use Rattle.pattern_unify.specs.Equations.{equation_at, equations_at, problem_at, IsValidEquation, AllValidEquations}
-use Rattle.pattern_unify.specs.Sides.{head_at, shape_at, IsSideAt}
-use Rattle.pattern_unify.specs.Turns.{GoesOn, IsTurn, rule_at}
+use Rattle.pattern_unify.specs.inside.Equations.{equation_at, equations_at, problem_at, IsValidEquation, AllValidEquations}
+use Rattle.pattern_unify.specs.inside.Sides.{head_at, shape_at, IsSideAt}
+use Rattle.pattern_unify.specs.inside.Turns.{GoesOn, IsTurn, rule_at}
 use Rattle.pattern_unify.proofs.EquationLemmas.{equations-last, equations_valid-last, equations-kept, first-kept, equations_valid-kept}
 use Rattle.pattern_unify.proofs.KeptLemmas.{open-kept, grown-nodes}
 

@@ -16,9 +16,9 @@ use Rattle.pattern_unify.specs.declared.equation.Equation.{Equation}
 use Rattle.pattern_unify.specs.declared.equation.Turn.TheVariants as turn
 use Rattle.ref_terms.specs.search.Branch.{bound}
 use Rattle.pattern_unify.specs.Answers.{problem_of, AnswersTrue, AnswersFalse, StopsSo}
-use Rattle.pattern_unify.specs.Equations.{IsValidEquation, AllValidEquations, problem_at}
-use Rattle.pattern_unify.specs.Turns.{GoesOn, IsTurn}
-use Rattle.pattern_unify.specs.Underway.{IsUnderway}
+use Rattle.pattern_unify.specs.inside.Equations.{IsValidEquation, AllValidEquations, problem_at}
+use Rattle.pattern_unify.specs.inside.Turns.{GoesOn, IsTurn}
+use Rattle.pattern_unify.specs.inside.Underway.{IsUnderway}
 use Rattle.pattern_unify.proofs.KeptLemmas.{grown-nodes}
 use Rattle.pattern_unify.proofs.StepsLeft.{steps-with}
 

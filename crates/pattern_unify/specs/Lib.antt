@@ -1,16 +1,5 @@
 pub mod Answers
-pub mod Binding
 pub mod Bound
-pub mod Closed
-pub mod Equations
-pub mod Keeping
-pub mod Own
 pub mod Places
-pub mod Reaching
-pub mod Searching
-pub mod Sides
-pub mod SpineNames
-pub mod Turns
-pub mod Underway
 pub mod Unifiers
-pub mod Verdicts
+pub mod inside

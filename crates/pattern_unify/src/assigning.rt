@@ -9,7 +9,7 @@ ghost use Rattle.ref_terms.specs.terms.Occurs.{occurs};
 ghost use Rattle.ref_terms.specs.unification.Closing.{close_all, names_below};
 ghost use Rattle.beta_fragment.specs.Names.{names};
 ghost use Rattle.pattern_unify.specs.Bound.{IsOpen, IsBound, LeavesOthers};
-ghost use Rattle.pattern_unify.specs.Closed.{ClosesAlike};
+ghost use Rattle.pattern_unify.specs.inside.Closed.{ClosesAlike};
 
 use crate::applying::applied;
 use crate::reaching::node_without;

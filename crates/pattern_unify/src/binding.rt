@@ -7,7 +7,7 @@ ghost use Rattle.level_terms.specs.Valid.{IsValid};
 ghost use Rattle.ref_terms.specs.terms.Occurs.{occurs};
 ghost use Rattle.ref_terms.specs.unification.Closing.{close_all};
 ghost use Rattle.beta_fragment.specs.Names.{names as own_names, AllBelow, AreDistinct};
-ghost use Rattle.pattern_unify.specs.Binding.{AreFirst, HasPositions, IsNameless};
+ghost use Rattle.pattern_unify.specs.inside.Binding.{AreFirst, HasPositions, IsNameless};
 ghost use Rattle.pattern_unify.specs.Bound.{IsOpen, IsBound, LeavesOthers, NamesAmong};
 
 use crate::applying::applied;

@@ -15,9 +15,9 @@ ghost use Rattle.beta_fragment.specs.Names.{names, AllBelow, AreDistinct};
 ghost use Rattle.beta_fragment.specs.HeadForm.{all_read, AllValidAt};
 ghost use Rattle.pattern_unify.specs.Bound.{IsOpen, LeavesFrozen, NamesAmong};
 ghost use Rattle.pattern_unify.specs.declared.offence.Verdict.TheVariants as verdicts;
-ghost use Rattle.pattern_unify.specs.Equations.{equation_at, equations_at, problem_at, IsValidEquation, AllValidEquations};
-ghost use Rattle.pattern_unify.specs.Turns.{IsTurn};
-ghost use Rattle.pattern_unify.specs.Verdicts.{verdict_of, DropsAssignable};
+ghost use Rattle.pattern_unify.specs.inside.Equations.{equation_at, equations_at, problem_at, IsValidEquation, AllValidEquations};
+ghost use Rattle.pattern_unify.specs.inside.Turns.{IsTurn};
+ghost use Rattle.pattern_unify.specs.inside.Verdicts.{verdict_of, DropsAssignable};
 
 use crate::assigning::assign_absent;
 use crate::binding::bind;

@@ -5,7 +5,7 @@ ghost use Rattle.level_terms.specs.Growth.{Grows};
 ghost use Rattle.ref_terms.specs.unification.Closing.{keeping};
 ghost use Rattle.beta_fragment.specs.Names.{AllBelow};
 ghost use Rattle.pattern_unify.specs.Bound.{IsOpen, IsBound, LeavesOthers};
-ghost use Rattle.pattern_unify.specs.Keeping.{AreLevels, IsVarOver};
+ghost use Rattle.pattern_unify.specs.inside.Keeping.{AreLevels, IsVarOver};
 
 use crate::assigning::assign_over;
 use level_terms::{Change, Heap, TermId, VarId};

@@ -15,8 +15,8 @@ ghost use Rattle.ref_terms.specs.unification.Spine.{apply_all};
 ghost use Rattle.beta_fragment.specs.Names.{names};
 ghost use Rattle.beta_fragment.specs.HeadForm.{AllValidAt, all_read, ReadsAsLam};
 ghost use Rattle.pattern_unify.specs.Bound.{IsOpen};
-ghost use Rattle.pattern_unify.specs.Searching.{is_known, unknown_from, is_fine as says_fine, at_place as place_says, name_says, head_says, spine_says, searching, subterm, verdict_on, LooksAt};
-ghost use Rattle.pattern_unify.specs.Verdicts.{verdict_of, DropsAssignable};
+ghost use Rattle.pattern_unify.specs.inside.Searching.{is_known, unknown_from, is_fine as says_fine, at_place as place_says, name_says, head_says, spine_says, searching, subterm, verdict_on, LooksAt};
+ghost use Rattle.pattern_unify.specs.inside.Verdicts.{verdict_of, DropsAssignable};
 
 use crate::applying::{applied, inner_depth};
 use crate::spine::pattern_names;

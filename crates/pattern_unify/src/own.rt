@@ -3,8 +3,8 @@
 ghost use Rattle.std.specs.Prelude.{◌≡◌, ◌<◌, true, None, length, IfSome};
 ghost use Rattle.level_terms.specs.Graph.{value_in};
 ghost use Rattle.level_terms.specs.Valid.{IsValid};
-ghost use Rattle.pattern_unify.specs.Own.{IsOwn};
-ghost use Rattle.pattern_unify.specs.Sides.{IsRigid};
+ghost use Rattle.pattern_unify.specs.inside.Own.{IsOwn};
+ghost use Rattle.pattern_unify.specs.inside.Sides.{IsRigid};
 
 use crate::side::{Side, is_rigid};
 use level_terms::{Heap, Node, TermId, VarId};

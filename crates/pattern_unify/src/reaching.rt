@@ -13,7 +13,7 @@ ghost use Rattle.level_terms.specs.declared.node.VarId.{VarId as Variable};
 ghost use Rattle.level_terms.specs.declared.node.Node.TheVariants.{Var as var_node};
 ghost use Rattle.ref_terms.specs.terms.Occurs.{occurs};
 ghost use Rattle.beta_fragment.specs.Names.{names};
-ghost use Rattle.pattern_unify.specs.Reaching.{value_node, HasNext, IsLeft};
+ghost use Rattle.pattern_unify.specs.inside.Reaching.{value_node, HasNext, IsLeft};
 
 use beta_fragment::rebuild;
 use level_terms::{Heap, Node, TermId, VarId};

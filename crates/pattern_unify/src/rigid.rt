@@ -5,9 +5,9 @@ ghost use Rattle.level_terms.specs.Graph.{Graph};
 ghost use Rattle.ref_terms.specs.unification.Problem.{Binding};
 ghost use Rattle.ref_terms.specs.unification.Rules.{head_eq, two_rigid as reference_two_rigid};
 ghost use Rattle.beta_fragment.specs.HeadForm.{all_read, AllValidAt};
-ghost use Rattle.pattern_unify.specs.Equations.{equation_at, equations_at, arguments_of, problem_at, IsValidEquation, AllValidEquations};
-ghost use Rattle.pattern_unify.specs.Sides.{head_at};
-ghost use Rattle.pattern_unify.specs.Turns.{IsTurn};
+ghost use Rattle.pattern_unify.specs.inside.Equations.{equation_at, equations_at, arguments_of, problem_at, IsValidEquation, AllValidEquations};
+ghost use Rattle.pattern_unify.specs.inside.Sides.{head_at};
+ghost use Rattle.pattern_unify.specs.inside.Turns.{IsTurn};
 
 use crate::equation::{Equation, Turn};
 use crate::side::Head;

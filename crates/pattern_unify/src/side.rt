@@ -6,7 +6,7 @@ ghost use Rattle.level_terms.specs.Reading.{read};
 ghost use Rattle.level_terms.specs.Valid.{IsValid};
 ghost use Rattle.ref_terms.specs.unification.Shape.{shape};
 ghost use Rattle.beta_fragment.specs.Names.{names};
-ghost use Rattle.pattern_unify.specs.Sides.{shape_at, side_by, variable_by, IsSideAt, IsRigid};
+ghost use Rattle.pattern_unify.specs.inside.Sides.{shape_at, side_by, variable_by, IsSideAt, IsRigid};
 
 use beta_fragment::{RigidHead, Whnf, whnf};
 use level_terms::{Heap, TermId, TermIds, VarId};

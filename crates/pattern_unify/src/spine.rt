@@ -7,7 +7,7 @@ ghost use Rattle.level_terms.specs.Valid.{IsValid};
 ghost use Rattle.ref_terms.specs.unification.Pattern.{pattern_of, spine_name, add_distinct, of_name};
 ghost use Rattle.beta_fragment.specs.Names.{names, AllBelow};
 ghost use Rattle.beta_fragment.specs.HeadForm.{all_read, AllValidAt};
-ghost use Rattle.pattern_unify.specs.SpineNames.{bare_level, form_name};
+ghost use Rattle.pattern_unify.specs.inside.SpineNames.{bare_level, form_name};
 
 use beta_fragment::{RigidHead, Whnf, whnf};
 use level_terms::{Heap, TermId};

@@ -8,10 +8,10 @@ ghost use Rattle.ref_terms.specs.unification.Shape.{shape, Abstraction, Rigid, F
 ghost use Rattle.beta_fragment.specs.Names.{names};
 ghost use Rattle.beta_fragment.specs.HeadForm.{all_read, AllValidAt};
 ghost use Rattle.pattern_unify.specs.Bound.{IsOpen, LeavesFrozen};
-ghost use Rattle.pattern_unify.specs.Equations.{problem_at, IsValidEquation, AllValidEquations};
-ghost use Rattle.pattern_unify.specs.Own.{IsOwn};
-ghost use Rattle.pattern_unify.specs.Sides.{head_at, shape_at, IsSideAt};
-ghost use Rattle.pattern_unify.specs.Turns.{IsTurn, rule_at};
+ghost use Rattle.pattern_unify.specs.inside.Equations.{problem_at, IsValidEquation, AllValidEquations};
+ghost use Rattle.pattern_unify.specs.inside.Own.{IsOwn};
+ghost use Rattle.pattern_unify.specs.inside.Sides.{head_at, shape_at, IsSideAt};
+ghost use Rattle.pattern_unify.specs.inside.Turns.{IsTurn, rule_at};
 
 use crate::applying::{applied, inner_depth};
 use crate::equation::{Equation, Turn};

@@ -23,7 +23,7 @@ use Rattle.beta_fragment.specs.Body.{IsLam}
 use Rattle.beta_fragment.specs.Names.{names}
 use Rattle.beta_fragment.specs.HeadForm.{IsAbstraction}
 use Rattle.level_terms.proofs.ReadLemmas.{valid-below, grown-reads, read-follows}
-use Rattle.term_print.specs.Chains.{IsKept, AreKept, IsBelow, BodyIsKept}
+use Rattle.term_print.specs.inside.Chains.{IsKept, AreKept, IsBelow, BodyIsKept}
 use Rattle.term_print.proofs.LookLemmas.{node-stays}
 
 -- a body is older than its abstraction

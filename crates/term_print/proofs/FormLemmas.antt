@@ -6,8 +6,8 @@ use Rattle.ref_terms.specs.terms.Index.{sub, first}
 use Rattle.ref_terms.specs.unification.Spine.{apply_all}
 use Rattle.ref_terms.specs.texts.Text.{Part, Bytes, top, inner, front, left, symbol, infix_of, infix_word, bracketed, space}
 use Rattle.ref_terms.specs.search.Reserved.{word_of}
-use Rattle.term_print.specs.Opened.{head_part, application_form, parts}
-use Rattle.term_print.specs.Pieces.{infix_head, IsPrefixed, is_bare, argument_parts}
+use Rattle.term_print.specs.inside.Opened.{head_part, application_form, parts}
+use Rattle.term_print.specs.inside.Pieces.{infix_head, IsPrefixed, is_bare, argument_parts}
 
 module _ (table : List (List ℕ)) (names indices : ℕ → Part) where
   -- the front of an application

@@ -29,7 +29,7 @@ use Rattle.beta_fragment.specs.HeadForm.{IsHeadForm, rigid_head, all_read, IsAbs
 use Rattle.beta_fragment.specs.declared.answer.Whnf.{Whnf}
 use Rattle.beta_fragment.specs.declared.answer.Whnf.TheVariants.{Lam as lam_form, Rigid, Flex, Redex}
 use Rattle.level_terms.proofs.ReadLemmas.{valid-below, grown-reads, read-built}
-use Rattle.term_print.specs.Pieces.{is_bare, seen_term, argument_pieces}
+use Rattle.term_print.specs.inside.Pieces.{is_bare, seen_term, argument_pieces}
 use Rattle.term_print.specs.declared.piece.Piece.{Piece}
 use Rattle.term_print.specs.declared.piece.Piece.TheVariants.{Argument}
 

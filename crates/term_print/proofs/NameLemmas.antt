@@ -18,7 +18,7 @@ use Rattle.ref_terms.specs.unification.Spine.{apply_all}
 use Rattle.ref_terms.specs.lemmas.NameLemmas.{nameless-apply, nameless-lam, nameless-fill, has_name-ren, nat_eq_self, or_left, or_right}
 use Rattle.ref_terms.specs.texts.Text.{Part, Bytes, Form, front, left, inner, top, abstraction_form, binder, head_text, infix_of, term_parts}
 use Rattle.beta_fragment.specs.Names.{names}
-use Rattle.term_print.specs.Opened.{head_part, under_binder, parts, name_bytes, opened_parts}
+use Rattle.term_print.specs.inside.Opened.{head_part, under_binder, parts, name_bytes, opened_parts}
 use Rattle.term_print.proofs.OpenedLemmas.{parts-same, app-same}
 
 -- a name stands in none of the terms for the levels

@@ -5,7 +5,7 @@ use Rattle.ref_terms.specs.terms.Term.{Term, Lam, At, App, Head, Con, Int, Str, 
 use Rattle.ref_terms.specs.terms.Index.{sub, sub_head, under, shift, first}
 use Rattle.ref_terms.specs.texts.Text.{Part, Bytes, Form, top, inner, front, left, symbol, head_text, infix_of, term_parts, bracketed, abstraction_form, binder, space}
 use Rattle.level_terms.specs.Laws.{IsPlace, ArePlaces}
-use Rattle.term_print.specs.Opened.{head_part, under_binder, applied_parts, application_form, parts, name_bytes, opened_parts}
+use Rattle.term_print.specs.inside.Opened.{head_part, under_binder, applied_parts, application_form, parts, name_bytes, opened_parts}
 
 module _ (table : List (List ℕ)) where
   -- the printed form is one of these texts

@@ -10,9 +10,9 @@ use Rattle.ref_terms.specs.texts.Text.{Part}
 use Rattle.ref_terms.specs.texts.Answer.{term_line}
 use Rattle.ref_terms.specs.texts.Numbering.{numbered}
 use Rattle.beta_fragment.specs.Names.{names}
-use Rattle.term_print.specs.Opened.{opened_parts}
+use Rattle.term_print.specs.inside.Opened.{opened_parts}
 use Rattle.term_print.specs.Written.{seen_after, GainsFront, Page, Prints, Stops}
-use Rattle.term_print.specs.Pieces.{work_parts, work_size, ArePieces, Leaves}
+use Rattle.term_print.specs.inside.Pieces.{work_parts, work_size, ArePieces, Leaves}
 use Rattle.term_print.specs.declared.piece.Piece.{Piece}
 use Rattle.term_print.specs.declared.piece.Piece.TheVariants.{Top}
 use Rattle.term_print.proofs.NameLemmas.{opened-base}

@@ -20,7 +20,7 @@ use Rattle.beta_fragment.specs.Names.{names}
 use Rattle.beta_fragment.specs.HeadForm.{all_read, AllValidAt}
 use Rattle.level_terms.proofs.ReadLemmas.{valid-below, grown-reads}
 use Rattle.term_print.specs.Written.{seen_after, GainsFront, Page, Prints, Stops}
-use Rattle.term_print.specs.Pieces.{page}
+use Rattle.term_print.specs.inside.Pieces.{page}
 use Rattle.term_print.specs.Sequents.{IsSequent, more_names, names_bytes, scope_bytes, more_lines, all_lines, sequent_line}
 use Rattle.term_print.proofs.WrittenLemmas.{numbered-append, seen-append, prints-trans, prints-bytes, prints-none, stops-later, stops-unchanged}
 

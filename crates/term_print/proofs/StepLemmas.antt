@@ -22,11 +22,11 @@ use Rattle.beta_fragment.specs.HeadForm.{rigid_head, all_read, AllValidAt, IsAbs
 use Rattle.beta_fragment.specs.declared.answer.RigidHead.{RigidHead}
 use Rattle.beta_fragment.specs.declared.answer.RigidHead.TheVariants.{Con, Int, Str, Level}
 use Rattle.level_terms.proofs.ReadLemmas.{valid-below, grown-reads}
-use Rattle.term_print.specs.Chains.{AreKept}
-use Rattle.term_print.specs.Opened.{head_part, name_bytes, opened_parts}
-use Rattle.term_print.specs.Heads.{rigid_bytes, binder_bytes, infix_bytes}
+use Rattle.term_print.specs.inside.Chains.{AreKept}
+use Rattle.term_print.specs.inside.Opened.{head_part, name_bytes, opened_parts}
+use Rattle.term_print.specs.inside.Heads.{rigid_bytes, binder_bytes, infix_bytes}
 use Rattle.term_print.specs.Written.{Page, Prints, Stops, GainsFront}
-use Rattle.term_print.specs.Pieces.{IsPrefixed, is_bare, argument_parts, node_parts, piece_parts, work_parts, IsNode, IsPiece, ArePieces, piece_size, work_size, argument_pieces, Leaves, LeavesTerm, StopsTerm, page}
+use Rattle.term_print.specs.inside.Pieces.{IsPrefixed, is_bare, argument_parts, node_parts, piece_parts, work_parts, IsNode, IsPiece, ArePieces, piece_size, work_size, argument_pieces, Leaves, LeavesTerm, StopsTerm, page}
 use Rattle.term_print.specs.declared.piece.Piece.{Piece}
 use Rattle.term_print.specs.declared.piece.Piece.TheVariants.{Close, Infix, Top, Inner, Argument}
 use Rattle.term_print.proofs.WrittenLemmas.{prints-same, prints-trans, prints-bytes, prints-free, prints-none, stops-now, stops-later, stops-same, stops-bytes}

@@ -1,6 +1,3 @@
-pub mod Written
-pub mod Opened
-pub mod Heads
-pub mod Chains
-pub mod Pieces
 pub mod Sequents
+pub mod Written
+pub mod inside

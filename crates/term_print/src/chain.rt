@@ -10,7 +10,7 @@ ghost use Rattle.level_terms.specs.Valid.{IsValid};
 ghost use Rattle.beta_fragment.specs.Body.{IsLam};
 ghost use Rattle.beta_fragment.specs.Names.{names};
 ghost use Rattle.beta_fragment.specs.HeadForm.{IsAbstraction};
-ghost use Rattle.term_print.specs.Chains.{IsBelow, BodyIsKept};
+ghost use Rattle.term_print.specs.inside.Chains.{IsBelow, BodyIsKept};
 
 use beta_fragment::{Whnf, whnf};
 use level_terms::{Heap, Node, TermId};

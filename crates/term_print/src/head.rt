@@ -6,8 +6,8 @@ ghost use Rattle.std.specs.Fmt.{signed_decimal};
 ghost use Rattle.ref_terms.specs.search.Reserved.{word_of};
 ghost use Rattle.ref_terms.specs.texts.Text.{symbol, escaped, infix_word};
 ghost use Rattle.ref_terms.specs.texts.Numbering.{place_of, seen_also};
-ghost use Rattle.term_print.specs.Heads.{rigid_bytes, quoted_bytes, infix_bytes, binder_bytes};
-ghost use Rattle.term_print.specs.Opened.{name_bytes};
+ghost use Rattle.term_print.specs.inside.Heads.{rigid_bytes, quoted_bytes, infix_bytes, binder_bytes};
+ghost use Rattle.term_print.specs.inside.Opened.{name_bytes};
 ghost use Rattle.term_print.specs.Written.{GainsFront};
 
 use crate::namer::Namer;

@@ -10,7 +10,7 @@ ghost use Rattle.ref_terms.specs.texts.Numbering.{numbered};
 ghost use Rattle.beta_fragment.specs.Names.{names};
 ghost use Rattle.beta_fragment.specs.HeadForm.{AllValidAt, all_read};
 ghost use Rattle.term_print.specs.Sequents.{IsSequent, names_bytes, more_names, scope_bytes, more_lines, all_lines, sequent_line};
-ghost use Rattle.term_print.specs.Pieces.{page};
+ghost use Rattle.term_print.specs.inside.Pieces.{page};
 ghost use Rattle.term_print.specs.Written.{seen_after, GainsFront, Prints, Stops};
 
 use crate::namer::Namer;

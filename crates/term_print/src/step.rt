@@ -13,8 +13,8 @@ ghost use Rattle.ref_terms.specs.search.Reserved.{word_of};
 ghost use Rattle.ref_terms.specs.texts.Text.{top, inner, infix_word};
 ghost use Rattle.beta_fragment.specs.Names.{names};
 ghost use Rattle.beta_fragment.specs.HeadForm.{IsHeadForm, ReadsAsLam, FirstUnready, AllValidAt, rigid_head, all_read};
-ghost use Rattle.term_print.specs.Pieces.{IsNode, ArePieces, Leaves, LeavesTerm, StopsTerm, page, piece_parts, piece_size, work_parts, work_size, argument_pieces, seen_term, is_bare as bare, IsPrefixed};
-ghost use Rattle.term_print.specs.Chains.{AreKept, BodyIsKept};
+ghost use Rattle.term_print.specs.inside.Pieces.{IsNode, ArePieces, Leaves, LeavesTerm, StopsTerm, page, piece_parts, piece_size, work_parts, work_size, argument_pieces, seen_term, is_bare as bare, IsPrefixed};
+ghost use Rattle.term_print.specs.inside.Chains.{AreKept, BodyIsKept};
 ghost use Rattle.term_print.specs.Written.{Stops};
 ghost use Rattle.term_print.specs.declared.piece.Piece.TheVariants.{Inner as inner_piece, Infix as infix_piece};
 

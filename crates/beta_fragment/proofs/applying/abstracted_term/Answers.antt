@@ -1,7 +1,7 @@
 use Rattle.std.proofs.Common.{subst}
 use Rattle.ref_terms.specs.terms.Term as term
 use Rattle.ref_terms.specs.terms.Eta.{eta}
-use Rattle.beta_fragment.specs.Cells.{terms_of, term_at, IsKeptIfAny}
+use Rattle.beta_fragment.specs.inside.Cells.{terms_of, term_at, IsKeptIfAny}
 use Rattle.beta_fragment.proofs.CellLemmas.{gains-trans}
 use Rattle.beta_fragment.proofs.ApplyingLemmas.{added-or_same, abstracted-kept}
 use Rattle.beta_fragment.proofs.applying.abstracted_term.Goals as goal

@@ -1,5 +1,5 @@
 use Rattle.ref_terms.specs.terms.Term as term
-use Rattle.beta_fragment.specs.Cells.{terms_of, term_at}
+use Rattle.beta_fragment.specs.inside.Cells.{terms_of, term_at}
 use Rattle.beta_fragment.proofs.ApplyingLemmas.{added-or_same}
 use Rattle.beta_fragment.proofs.applying.applied_lam.Goals as goal
 

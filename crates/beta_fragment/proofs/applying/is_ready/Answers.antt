@@ -1,6 +1,6 @@
 use Rattle.std.proofs.Common.{◌≡◌, length, refl, sym, ap, ◌∙◌, arith}
 use Rattle.ref_terms.specs.terms.Ready.{ready}
-use Rattle.beta_fragment.specs.Cells.{terms_of, term_at, cell_term}
+use Rattle.beta_fragment.specs.inside.Cells.{terms_of, term_at, cell_term}
 use Rattle.beta_fragment.proofs.TakingLaws.{ready-app}
 use Rattle.beta_fragment.proofs.applying.is_ready.Goals as goal
 

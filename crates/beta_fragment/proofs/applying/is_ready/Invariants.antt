@@ -1,6 +1,6 @@
 use Rattle.std.proofs.Common.{◌≡◌, ◌<◌, length}
 use Rattle.ref_terms.specs.terms.Ready.{ready}
-use Rattle.beta_fragment.specs.Cells.{terms_of, term_at}
+use Rattle.beta_fragment.specs.inside.Cells.{terms_of, term_at}
 use Rattle.beta_fragment.proofs.applying.is_ready.Given as goal
 
 abbrev pub invariant-loop-f : goal.invariant-loop-f

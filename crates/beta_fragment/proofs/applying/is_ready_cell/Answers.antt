@@ -1,7 +1,7 @@
 use Rattle.std.proofs.Common.{ap, ◌∙◌, subst}
 use Rattle.ref_terms.specs.terms.Ready.{ready}
 use Rattle.ref_terms.specs.lemmas.ReadyFacts.{ready-bound, ready-var, ready-lam}
-use Rattle.beta_fragment.specs.Cells.{term_at, cell_term, IsNoApp}
+use Rattle.beta_fragment.specs.inside.Cells.{term_at, cell_term, IsNoApp}
 use Rattle.beta_fragment.proofs.TakingLaws.{rigid-ready}
 use Rattle.beta_fragment.proofs.applying.is_ready_cell.Goals as goal
 

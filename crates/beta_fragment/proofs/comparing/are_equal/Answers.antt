@@ -1,6 +1,6 @@
 use Rattle.std.proofs.Common.{◌≡◌, true, false, subst}
-use Rattle.beta_fragment.specs.Cells.{terms_of}
-use Rattle.beta_fragment.specs.Compared.{ComesTo}
+use Rattle.beta_fragment.specs.inside.Cells.{terms_of}
+use Rattle.beta_fragment.specs.inside.Compared.{ComesTo}
 use Rattle.beta_fragment.proofs.ComparedLemmas.{pair-there, turn-there, turn-whole, turn-each, turn-differs, turn-falls}
 use Rattle.beta_fragment.proofs.comparing.are_equal.Goals as goal
 

@@ -1,6 +1,6 @@
 use Rattle.std.proofs.Common.{◌≡◌, length}
-use Rattle.beta_fragment.specs.Cells.{terms_of, term_at}
-use Rattle.beta_fragment.specs.Compared.{AreThere, AllEqual, sides_size}
+use Rattle.beta_fragment.specs.inside.Cells.{terms_of, term_at}
+use Rattle.beta_fragment.specs.inside.Compared.{AreThere, AllEqual, sides_size}
 use Rattle.beta_fragment.proofs.comparing.are_equal.Given as goal
 
 abbrev pub invariant-loop-sides : goal.invariant-loop-sides

@@ -1,5 +1,5 @@
 use Rattle.std.proofs.Common.{◌∙◌, sym}
-use Rattle.beta_fragment.specs.Cells.{terms_of}
+use Rattle.beta_fragment.specs.inside.Cells.{terms_of}
 use Rattle.beta_fragment.proofs.ComparedLemmas.{leaves-none, leaves-same, leaves-bodies, leaves-parts}
 use Rattle.beta_fragment.proofs.comparing.compared.Goals as goal
 

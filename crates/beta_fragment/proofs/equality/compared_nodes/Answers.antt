@@ -1,5 +1,5 @@
 use Rattle.std.proofs.Common.{◌∙◌, subst}
-use Rattle.beta_fragment.specs.Pairs.{MayDivide, MayTell}
+use Rattle.beta_fragment.specs.inside.Pairs.{MayDivide, MayTell}
 use Rattle.beta_fragment.proofs.PairLemmas.{divides-none, divides-equal, decided}
 use Rattle.beta_fragment.proofs.equality.compared_nodes.Goals as goal
 

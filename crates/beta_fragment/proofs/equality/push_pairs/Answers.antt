@@ -1,6 +1,6 @@
 use Rattle.std.proofs.Common.{◌≡◌, ◌<◌, ◌-◌, ◌++◌, ◌∷◌, suc, List, reverse, drop, length, sym, ap, ◌∙◌, arith, append-nil, get_or}
 use Rattle.beta_fragment.specs.declared.equality.Pair.{Pair}
-use Rattle.beta_fragment.specs.Pairs.{pairs_of}
+use Rattle.beta_fragment.specs.inside.Pairs.{pairs_of}
 use Rattle.beta_fragment.proofs.SpineLemmas.{pairs-all, pairs-one, pairs-step}
 use Rattle.beta_fragment.proofs.equality.push_pairs.Goals as goal
 

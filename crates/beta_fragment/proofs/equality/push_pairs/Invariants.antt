@@ -1,5 +1,5 @@
 use Rattle.std.proofs.Common.{◌≡◌, ◌≤◌, ◌++◌, length, reverse, drop}
-use Rattle.beta_fragment.specs.Pairs.{pairs_of}
+use Rattle.beta_fragment.specs.inside.Pairs.{pairs_of}
 use Rattle.beta_fragment.proofs.equality.push_pairs.Given as goal
 
 abbrev pub invariant-loop-i : goal.invariant-loop-i

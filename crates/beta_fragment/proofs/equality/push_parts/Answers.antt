@@ -1,6 +1,6 @@
 use Rattle.std.proofs.Common.{◌∙◌, ◌++◌, ap, ap₂, sym, reverse, Some, List}
 use Rattle.level_terms.specs.declared.node.TermId.{TermId}
-use Rattle.beta_fragment.specs.Pairs.{pairs_of}
+use Rattle.beta_fragment.specs.inside.Pairs.{pairs_of}
 use Rattle.beta_fragment.proofs.PairLemmas.{left-there, right-there, head-there}
 use Rattle.beta_fragment.proofs.SpineLemmas.{apps-divide}
 use Rattle.beta_fragment.proofs.equality.push_parts.Goals as goal

@@ -1,7 +1,7 @@
 use Rattle.std.proofs.Common.{◌≡◌, ◌∙◌, ◌++◌, [], ◌∷◌, true, false, subst, List, ap, sym, refl, arith}
 use Rattle.level_terms.proofs.GrowthLemmas.{grows-refl}
 use Rattle.beta_fragment.specs.declared.equality.Pair.{Pair}
-use Rattle.beta_fragment.specs.Pairs.{TurnsOut, AllValidPairs, AllSame}
+use Rattle.beta_fragment.specs.inside.Pairs.{TurnsOut, AllValidPairs, AllSame}
 use Rattle.beta_fragment.proofs.SplitLemmas.{empty-list}
 use Rattle.beta_fragment.proofs.PairLemmas.{pair-valid, turn-valid, turn-whole, turn-each, turn-differs, turn-falls}
 use Rattle.beta_fragment.proofs.equality.same_term.Goals as goal

@@ -1,7 +1,7 @@
 use Rattle.std.proofs.Common.{◌≡◌}
 use Rattle.level_terms.specs.Reading.{read}
 use Rattle.beta_fragment.specs.Names.{names}
-use Rattle.beta_fragment.specs.Pairs.{AllValidPairs, AllSame, pairs_size}
+use Rattle.beta_fragment.specs.inside.Pairs.{AllValidPairs, AllSame, pairs_size}
 use Rattle.beta_fragment.proofs.equality.same_term.Given as goal
 
 abbrev pub invariant-loop-pair : goal.invariant-loop-pair

@@ -1,4 +1,4 @@
-use Rattle.beta_fragment.specs.Cells.{terms_of}
+use Rattle.beta_fragment.specs.inside.Cells.{terms_of}
 use Rattle.beta_fragment.proofs.PairLemmas.{wholes-told}
 use Rattle.beta_fragment.proofs.equality.same_wholes.Goals as goal
 

@@ -5,7 +5,7 @@ use Rattle.ref_terms.specs.terms.Term.{Term}
 use Rattle.ref_terms.specs.unification.Spine.{apply_all}
 use Rattle.beta_fragment.specs.Names.{renamed}
 use Rattle.beta_fragment.specs.HeadForm.{all_read}
-use Rattle.beta_fragment.specs.Cells.{terms_of, term_at, IsKept}
+use Rattle.beta_fragment.specs.inside.Cells.{terms_of, term_at, IsKept}
 use Rattle.beta_fragment.specs.Quoted.{AllHeads, IsOpenHead}
 use Rattle.beta_fragment.proofs.CellLemmas.{gains-trans, gains-longer, gains-at}
 use Rattle.beta_fragment.proofs.OpenHeadLemmas.{heads-apply}

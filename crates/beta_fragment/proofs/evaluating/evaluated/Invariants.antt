@@ -4,7 +4,7 @@ use Rattle.ref_terms.specs.unification.Spine.{apply_all}
 use Rattle.beta_fragment.specs.Names.{renamed}
 use Rattle.beta_fragment.specs.HeadForm.{all_read}
 use Rattle.beta_fragment.specs.Quoted.{AllHeads, IsOpenHead}
-use Rattle.beta_fragment.specs.Cells.{terms_of, term_at, Gains, IsKept}
+use Rattle.beta_fragment.specs.inside.Cells.{terms_of, term_at, Gains, IsKept}
 use Rattle.beta_fragment.proofs.evaluating.evaluated.Given as goal
 
 abbrev pub invariant-loop-i : goal.invariant-loop-i

@@ -1,9 +1,9 @@
 use Rattle.std.proofs.Common.{◌<◌, List, ℕ, reverse, sym, subst, arith}
 use Rattle.level_terms.specs.Reading.{read}
 use Rattle.beta_fragment.specs.Names.{renamed}
-use Rattle.beta_fragment.specs.Cells.{terms_of}
+use Rattle.beta_fragment.specs.inside.Cells.{terms_of}
 use Rattle.beta_fragment.specs.declared.evaluating.Task.{Task}
-use Rattle.beta_fragment.specs.Evaluation.{Comes, IsComing, work_size, done_terms, AreDone}
+use Rattle.beta_fragment.specs.inside.Evaluation.{Comes, IsComing, work_size, done_terms, AreDone}
 use Rattle.beta_fragment.proofs.CellLemmas.{gains-refl, gains-trans}
 use Rattle.beta_fragment.proofs.SplitLemmas.{empty-list}
 use Rattle.beta_fragment.proofs.EvaluationLemmas.{first-comes, comes-ready, comes-some, comes-last, done-last}

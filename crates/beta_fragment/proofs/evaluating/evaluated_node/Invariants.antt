@@ -1,8 +1,8 @@
 use Rattle.std.proofs.Common.{reverse}
 use Rattle.level_terms.specs.Reading.{read}
 use Rattle.beta_fragment.specs.Names.{renamed}
-use Rattle.beta_fragment.specs.Cells.{terms_of, Gains}
-use Rattle.beta_fragment.specs.Evaluation.{IsComing, done_terms, AreDone, work_size}
+use Rattle.beta_fragment.specs.inside.Cells.{terms_of, Gains}
+use Rattle.beta_fragment.specs.inside.Evaluation.{IsComing, done_terms, AreDone, work_size}
 use Rattle.beta_fragment.proofs.evaluating.evaluated_node.Given as goal
 
 abbrev pub invariant-loop-task : goal.invariant-loop-task

@@ -1,5 +1,5 @@
 use Rattle.std.proofs.Common.{◌∷◌, []}
-use Rattle.beta_fragment.specs.Cells.{terms_of, cell_term}
+use Rattle.beta_fragment.specs.inside.Cells.{terms_of, cell_term}
 use Rattle.beta_fragment.proofs.evaluating.kept_cell.Goals as goal
 
 pub returns-clause-gains : goal.returns-clause-gains

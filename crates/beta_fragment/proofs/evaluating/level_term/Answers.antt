@@ -1,5 +1,5 @@
 use Rattle.std.proofs.Common.{length}
-use Rattle.beta_fragment.specs.Cells.{terms_of}
+use Rattle.beta_fragment.specs.inside.Cells.{terms_of}
 use Rattle.beta_fragment.proofs.evaluating.level_term.Goals as goal
 
 pub kept_cell-requires : goal.kept_cell-requires

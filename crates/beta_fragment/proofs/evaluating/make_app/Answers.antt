@@ -1,4 +1,4 @@
-use Rattle.beta_fragment.specs.Cells.{terms_of}
+use Rattle.beta_fragment.specs.inside.Cells.{terms_of}
 use Rattle.beta_fragment.proofs.EvaluationLemmas.{steps-app, app-done}
 use Rattle.beta_fragment.proofs.evaluating.make_app.Goals as goal
 

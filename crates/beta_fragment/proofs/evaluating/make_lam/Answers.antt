@@ -1,5 +1,5 @@
 use Rattle.std.proofs.Common.{◌-◌, refl}
-use Rattle.beta_fragment.specs.Cells.{terms_of}
+use Rattle.beta_fragment.specs.inside.Cells.{terms_of}
 use Rattle.beta_fragment.proofs.EvaluationLemmas.{steps-lam, lam-done}
 use Rattle.beta_fragment.proofs.evaluating.make_lam.Goals as goal
 

@@ -1,6 +1,6 @@
 use Rattle.std.proofs.Common.{◌≡◌, ◌<◌, ◌-◌, ◌++◌, suc, List, reverse, drop, length, sym, ap, ◌∙◌, arith, append-nil}
 use Rattle.beta_fragment.specs.declared.evaluating.Task.{Task}
-use Rattle.beta_fragment.specs.Evaluation.{arg_tasks}
+use Rattle.beta_fragment.specs.inside.Evaluation.{arg_tasks}
 use Rattle.beta_fragment.proofs.ArgumentLemmas.{pushed-arg, pushed-none}
 use Rattle.beta_fragment.proofs.evaluating.push_args.Goals as goal
 

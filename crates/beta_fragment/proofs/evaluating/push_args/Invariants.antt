@@ -1,5 +1,5 @@
 use Rattle.std.proofs.Common.{◌≡◌, ◌≤◌, ◌++◌, length, reverse, drop}
-use Rattle.beta_fragment.specs.Evaluation.{arg_tasks}
+use Rattle.beta_fragment.specs.inside.Evaluation.{arg_tasks}
 use Rattle.beta_fragment.proofs.evaluating.push_args.Given as goal
 
 abbrev pub invariant-loop-i : goal.invariant-loop-i

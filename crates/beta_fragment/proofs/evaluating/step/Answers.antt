@@ -1,8 +1,8 @@
 use Rattle.std.proofs.Common.{◌++◌, ◌∷◌, [], sym, subst}
 use Rattle.std.proofs.lemmas.Result.{on_ok_weaker}
-use Rattle.beta_fragment.specs.Cells.{terms_of}
+use Rattle.beta_fragment.specs.inside.Cells.{terms_of}
 use Rattle.beta_fragment.specs.declared.evaluating.Task.{Task}
-use Rattle.beta_fragment.specs.Evaluation.{Steps, done_terms}
+use Rattle.beta_fragment.specs.inside.Evaluation.{Steps, done_terms}
 use Rattle.beta_fragment.proofs.evaluating.step.Goals as goal
 
 pub returns-in-App-clause-steps : goal.returns-in-App-clause-steps

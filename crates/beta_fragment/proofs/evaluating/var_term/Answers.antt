@@ -2,8 +2,8 @@ use Rattle.std.proofs.Common.{◌≡◌, ◌∙◌, subst, arith}
 use Rattle.level_terms.specs.Reading.{levels}
 use Rattle.ref_terms.specs.terms.Term.{At, Var}
 use Rattle.ref_terms.specs.unification.Spine.{apply_all}
-use Rattle.beta_fragment.specs.Cells.{terms_of, term_at, IsKept}
-use Rattle.beta_fragment.specs.Evaluation.{entries_env}
+use Rattle.beta_fragment.specs.inside.Cells.{terms_of, term_at, IsKept}
+use Rattle.beta_fragment.specs.inside.Evaluation.{entries_env}
 use Rattle.beta_fragment.proofs.CellLemmas.{gains-trans, gains-longer, gains-at}
 use Rattle.beta_fragment.proofs.ArgumentLemmas.{level-applied}
 use Rattle.beta_fragment.proofs.evaluating.var_term.Goals as goal

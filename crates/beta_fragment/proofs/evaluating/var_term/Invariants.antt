@@ -1,8 +1,8 @@
 use Rattle.level_terms.specs.Reading.{levels}
 use Rattle.ref_terms.specs.terms.Term.{At, Var}
 use Rattle.ref_terms.specs.unification.Spine.{apply_all}
-use Rattle.beta_fragment.specs.Cells.{terms_of, Gains, IsKept}
-use Rattle.beta_fragment.specs.Evaluation.{entries_env}
+use Rattle.beta_fragment.specs.inside.Cells.{terms_of, Gains, IsKept}
+use Rattle.beta_fragment.specs.inside.Evaluation.{entries_env}
 use Rattle.beta_fragment.proofs.evaluating.var_term.Given as goal
 
 abbrev pub invariant-loop-level : goal.invariant-loop-level

@@ -7,8 +7,8 @@ use Rattle.beta_fragment.specs.declared.evaluating.Task.TheVariants.{Visit}
 use Rattle.std.proofs.lemmas.Result.{on_ok_weaker}
 use Rattle.level_terms.specs.declared.node.Node.TheVariants.{Con, Int, Str}
 use Rattle.level_terms.proofs.NodeLemmas.{nodes_read}
-use Rattle.beta_fragment.specs.Cells.{terms_of}
-use Rattle.beta_fragment.specs.Evaluation.{Steps, done_terms}
+use Rattle.beta_fragment.specs.inside.Cells.{terms_of}
+use Rattle.beta_fragment.specs.inside.Evaluation.{Steps, done_terms}
 use Rattle.level_terms.proofs.ReadLemmas.{valid-below}
 use Rattle.beta_fragment.proofs.VarLemmas.{var-known}
 use Rattle.beta_fragment.proofs.evaluating.visit.Goals as goal

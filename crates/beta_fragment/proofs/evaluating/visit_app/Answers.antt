@@ -2,7 +2,7 @@ use Rattle.std.proofs.Common.{◌≡◌, ◌++◌, ◌∷◌, [], List, reverse,
 use Rattle.std.proofs.lemmas.List.{reverse-append, reverse-reverse}
 use Rattle.beta_fragment.specs.declared.evaluating.Task.{Task}
 use Rattle.beta_fragment.specs.declared.evaluating.Task.TheVariants.{Visit}
-use Rattle.beta_fragment.specs.Evaluation.{Steps, arg_tasks}
+use Rattle.beta_fragment.specs.inside.Evaluation.{Steps, arg_tasks}
 use Rattle.beta_fragment.proofs.EvaluationLemmas.{steps-more, app-comes, app-falls}
 use Rattle.beta_fragment.proofs.ArgumentLemmas.{pushed-app}
 use Rattle.beta_fragment.proofs.evaluating.visit_app.Goals as goal

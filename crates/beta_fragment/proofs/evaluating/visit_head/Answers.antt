@@ -1,8 +1,8 @@
 use Rattle.std.proofs.Common.{sym, ◌∙◌}
 use Rattle.ref_terms.specs.terms.Term.{At}
-use Rattle.beta_fragment.specs.Cells.{terms_of}
+use Rattle.beta_fragment.specs.inside.Cells.{terms_of}
 use Rattle.beta_fragment.specs.HeadForm.{rigid_head}
-use Rattle.beta_fragment.specs.Evaluation.{entries_env}
+use Rattle.beta_fragment.specs.inside.Evaluation.{entries_env}
 use Rattle.beta_fragment.proofs.EvaluationLemmas.{steps-done, kept-done, rigid-open, entries-places}
 use Rattle.beta_fragment.proofs.evaluating.visit_head.Goals as goal
 

@@ -1,7 +1,7 @@
 use Rattle.std.proofs.Common.{◌≡◌, ◌+◌, ◌++◌, ◌∷◌, [], List, arith, refl, sym, ap, ◌∙◌, subst, append_assoc}
 use Rattle.beta_fragment.specs.declared.evaluating.Task.{Task}
 use Rattle.beta_fragment.specs.declared.evaluating.Task.TheVariants.{Visit, Lam}
-use Rattle.beta_fragment.specs.Evaluation.{Steps}
+use Rattle.beta_fragment.specs.inside.Evaluation.{Steps}
 use Rattle.beta_fragment.proofs.HeadLemmas.{lam-within}
 use Rattle.beta_fragment.proofs.EvaluationLemmas.{steps-more, lam-comes, lam-falls}
 use Rattle.beta_fragment.proofs.evaluating.visit_lam.Goals as goal

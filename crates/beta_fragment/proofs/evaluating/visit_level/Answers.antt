@@ -1,8 +1,8 @@
 use Rattle.std.proofs.Common.{arith, sym, ◌∙◌}
 use Rattle.level_terms.specs.declared.node.Node.TheVariants.{Level}
 use Rattle.level_terms.proofs.NodeLemmas.{nodes_read}
-use Rattle.beta_fragment.specs.Cells.{terms_of}
-use Rattle.beta_fragment.specs.Evaluation.{entries_env}
+use Rattle.beta_fragment.specs.inside.Cells.{terms_of}
+use Rattle.beta_fragment.specs.inside.Evaluation.{entries_env}
 use Rattle.beta_fragment.proofs.StayLemmas.{level-low}
 use Rattle.beta_fragment.proofs.OpenHeadLemmas.{place-open}
 use Rattle.beta_fragment.proofs.EvaluationLemmas.{steps-done, kept-done, entries-places}

@@ -5,10 +5,10 @@ use Rattle.level_terms.proofs.NodeLemmas.{nodes_read}
 use Rattle.ref_terms.specs.terms.Term as term
 use Rattle.ref_terms.specs.terms.Term.{At}
 use Rattle.ref_terms.specs.unification.Spine.{apply_all}
-use Rattle.beta_fragment.specs.Cells.{terms_of}
+use Rattle.beta_fragment.specs.inside.Cells.{terms_of}
 use Rattle.beta_fragment.specs.declared.evaluating.Task.{Task}
 use Rattle.beta_fragment.specs.declared.evaluating.Task.TheVariants.{Visit}
-use Rattle.beta_fragment.specs.Evaluation.{Steps, entries_env, done_terms}
+use Rattle.beta_fragment.specs.inside.Evaluation.{Steps, entries_env, done_terms}
 use Rattle.beta_fragment.proofs.StayLemmas.{var-low}
 use Rattle.beta_fragment.proofs.OpenHeadLemmas.{levels-open}
 use Rattle.beta_fragment.proofs.EvaluationLemmas.{steps-done, steps-more, value-comes, value-falls, kept-done, entries-places}

@@ -2,7 +2,7 @@ use Rattle.std.proofs.Common.{◌≡◌, suc, ◌+◌, ◌∷◌, List, sym, sub
 use Rattle.level_terms.specs.Valid.{IsValid}
 use Rattle.level_terms.specs.Reading.{read}
 use Rattle.beta_fragment.specs.Names.{names}
-use Rattle.beta_fragment.specs.Turn.{GoesOn, TakesOn, IsTurn}
+use Rattle.beta_fragment.specs.inside.Turn.{GoesOn, TakesOn, IsTurn}
 use Rattle.level_terms.proofs.GrowthLemmas.{grows-refl, grows-trans}
 use Rattle.level_terms.specs.declared.node.TermId.{TermId}
 use Rattle.level_terms.proofs.ValidLemmas.{growth_keeps_valid}
@@ -14,7 +14,7 @@ use Rattle.beta_fragment.proofs.TurnLemmas.{first-spine, first-moves}
 use Rattle.std.proofs.lemmas.List.{length-reverse}
 use Rattle.std.proofs.lemmas.Result.{IfOk-weaker}
 use Rattle.beta_fragment.specs.Moves.{IsMove}
-use Rattle.beta_fragment.specs.Standing.{StandFor}
+use Rattle.beta_fragment.specs.inside.Standing.{StandFor}
 use Rattle.beta_fragment.proofs.StandLemmas.{Stands, stands-grown, first-ready, first-valid, goes-spine, takes-spine, puts-reversed, puts-long, ends-found}
 use Rattle.beta_fragment.proofs.head.+head.Goals as goal
 

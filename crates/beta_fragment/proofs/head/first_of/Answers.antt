@@ -1,7 +1,7 @@
 use Rattle.std.proofs.Common.{◌∙◌, List, ap, sym, subst, reverse, refl}
 use Rattle.level_terms.specs.declared.node.TermId.{TermId}
 use Rattle.beta_fragment.specs.HeadForm.{AllValidAt}
-use Rattle.beta_fragment.specs.Turn.{IsFirst, FirstReady}
+use Rattle.beta_fragment.specs.inside.Turn.{IsFirst, FirstReady}
 use Rattle.beta_fragment.specs.declared.glance.Readiness.TheVariants.{Ready}
 use Rattle.level_terms.proofs.ReadLemmas.{valid-below}
 use Rattle.beta_fragment.proofs.FirmLemmas.{last-split}

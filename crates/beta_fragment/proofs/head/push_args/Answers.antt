@@ -8,7 +8,7 @@ use Rattle.ref_terms.specs.terms.Term.{Term}
 use Rattle.beta_fragment.specs.Names.{renamed, names}
 use Rattle.level_terms.specs.Values.{value_of}
 use Rattle.beta_fragment.specs.HeadForm.{AllValidAt, all_read}
-use Rattle.beta_fragment.specs.Spine.{args_in}
+use Rattle.beta_fragment.specs.inside.Spine.{args_in}
 use Rattle.level_terms.proofs.ReadLemmas.{valid-below, grown-reads}
 use Rattle.beta_fragment.proofs.MoveLemmas.{node-after}
 use Rattle.beta_fragment.proofs.HeadLemmas.{renamed-node, renamed-valid, valid-each, valid-grown_all, read-grown_all, drop-get, drop-whole, newest-arg}

@@ -4,7 +4,7 @@ use Rattle.level_terms.specs.Reading.{read}
 use Rattle.level_terms.specs.Growth.{Grows}
 use Rattle.beta_fragment.specs.Names.{renamed}
 use Rattle.beta_fragment.specs.HeadForm.{AllValidAt, all_read}
-use Rattle.beta_fragment.specs.Spine.{args_in}
+use Rattle.beta_fragment.specs.inside.Spine.{args_in}
 use Rattle.beta_fragment.proofs.head.push_args.Given as goal
 
 abbrev pub invariant-loop-i : goal.invariant-loop-i

@@ -2,7 +2,7 @@ use Rattle.std.proofs.Common.{◌≡◌, ℕ, ◌+◌, ◌∙◌, ◌++◌, ◌�
 use Rattle.std.specs.Prelude.{MatchOption}
 use Rattle.level_terms.specs.declared.node.TermId.{TermId}
 use Rattle.level_terms.proofs.GrowthLemmas.{grows-refl}
-use Rattle.beta_fragment.specs.Turn.{IsFirst}
+use Rattle.beta_fragment.specs.inside.Turn.{IsFirst}
 use Rattle.beta_fragment.specs.declared.glance.Readiness.TheVariants.{Level, Ready}
 use Rattle.beta_fragment.proofs.TurnLemmas.{lam-turn, pop-split, pop-ready}
 use Rattle.beta_fragment.proofs.StandLemmas.{take-turn}

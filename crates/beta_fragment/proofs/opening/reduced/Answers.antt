@@ -1,7 +1,7 @@
 use Rattle.std.proofs.Common.{refl, []}
 use Rattle.std.proofs.lemmas.Result.{IfOk-weaker}
 use Rattle.level_terms.proofs.GrowthLemmas.{grows-refl}
-use Rattle.beta_fragment.specs.Cells.{terms_of, term_at}
+use Rattle.beta_fragment.specs.inside.Cells.{terms_of, term_at}
 use Rattle.beta_fragment.proofs.FilledLemmas.{reduced-quotable, reduced-reads}
 use Rattle.beta_fragment.proofs.opening.reduced.Goals as goal
 

@@ -1,6 +1,6 @@
 use Rattle.std.proofs.Common.{◌∙◌, ap, subst, Some, []}
 use Rattle.level_terms.proofs.GrowthLemmas.{grows-refl}
-use Rattle.beta_fragment.specs.Settled.{HasPlainHead}
+use Rattle.beta_fragment.specs.inside.Settled.{HasPlainHead}
 use Rattle.beta_fragment.proofs.StayLemmas.{lam-stays, var-stays, con-stays, int-stays, str-stays}
 use Rattle.beta_fragment.proofs.VarLemmas.{var-known}
 use Rattle.beta_fragment.proofs.putting.put_at.Goals as goal

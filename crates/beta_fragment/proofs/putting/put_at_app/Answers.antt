@@ -1,7 +1,7 @@
 use Rattle.std.proofs.Common.{◌++◌, ◌∷◌, [], List, length, reverse, sym, subst}
 use Rattle.level_terms.specs.Reading.{read}
 use Rattle.beta_fragment.specs.Moves.{putting}
-use Rattle.beta_fragment.specs.Work.{Steps, visits}
+use Rattle.beta_fragment.specs.inside.Work.{Steps, visits}
 use Rattle.beta_fragment.specs.declared.renaming.Task.{Task}
 use Rattle.beta_fragment.specs.declared.renaming.Task.TheVariants.{Visit, App}
 use Rattle.level_terms.proofs.ReadLemmas.{valid-below}

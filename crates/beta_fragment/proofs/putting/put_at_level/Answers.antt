@@ -4,7 +4,7 @@ use Rattle.level_terms.specs.declared.node.TermId.{TermId}
 use Rattle.level_terms.specs.Reading.{read}
 use Rattle.level_terms.specs.Values.{value_of}
 use Rattle.beta_fragment.specs.Moves.{putting}
-use Rattle.beta_fragment.specs.Work.{Steps}
+use Rattle.beta_fragment.specs.inside.Work.{Steps}
 use Rattle.beta_fragment.specs.declared.renaming.Task.TheVariants.{Visit}
 use Rattle.level_terms.proofs.ReadLemmas.{valid-below}
 use Rattle.level_terms.proofs.MakeLemmas.{older-append, older-grown}

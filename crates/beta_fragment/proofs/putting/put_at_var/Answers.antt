@@ -3,7 +3,7 @@ use Rattle.level_terms.specs.Sound.{AllOlder}
 use Rattle.level_terms.specs.Reading.{read}
 use Rattle.level_terms.specs.declared.node.TermId.{TermId}
 use Rattle.level_terms.proofs.GrowthLemmas.{grows-refl}
-use Rattle.beta_fragment.specs.Work.{Steps}
+use Rattle.beta_fragment.specs.inside.Work.{Steps}
 use Rattle.level_terms.specs.Values.{value_of}
 use Rattle.beta_fragment.specs.Moves.{putting, IsPutVar}
 use Rattle.beta_fragment.specs.declared.renaming.Task.{Task}

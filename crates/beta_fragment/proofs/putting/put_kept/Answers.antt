@@ -6,7 +6,7 @@ use Rattle.level_terms.proofs.GrowthLemmas.{grows-refl}
 use Rattle.level_terms.proofs.ValidLemmas.{growth_keeps_valid, valid_deeper}
 use Rattle.level_terms.specs.Values.{Value, value_of}
 use Rattle.beta_fragment.specs.Moves.{putting}
-use Rattle.beta_fragment.specs.Work.{Steps}
+use Rattle.beta_fragment.specs.inside.Work.{Steps}
 use Rattle.beta_fragment.specs.declared.renaming.Task.TheVariants.{Visit}
 use Rattle.level_terms.proofs.MakeLemmas.{older-append, value-kept}
 use Rattle.level_terms.proofs.ReadLemmas.{valid-below}

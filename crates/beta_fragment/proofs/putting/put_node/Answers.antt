@@ -8,8 +8,8 @@ use Rattle.beta_fragment.specs.declared.renaming.Task.{Task}
 use Rattle.beta_fragment.specs.declared.renaming.Task.TheVariants.{Visit, Lam, App}
 use Rattle.level_terms.specs.Values.{value_of}
 use Rattle.beta_fragment.specs.Moves.{Plan, putting}
-use Rattle.beta_fragment.specs.Settled.{IsTaskThere}
-use Rattle.beta_fragment.specs.Work.{Leads, IsLeading, work_size, Steps, IsReady}
+use Rattle.beta_fragment.specs.inside.Settled.{IsTaskThere}
+use Rattle.beta_fragment.specs.inside.Work.{Leads, IsLeading, work_size, Steps, IsReady}
 use Rattle.level_terms.proofs.ReadLemmas.{valid-below, grown-reads}
 use Rattle.level_terms.proofs.MakeLemmas.{older-last}
 use Rattle.beta_fragment.proofs.SplitLemmas.{empty-list}

@@ -3,7 +3,7 @@ use Rattle.level_terms.specs.Sound.{AllOlder}
 use Rattle.level_terms.specs.Reading.{read}
 use Rattle.level_terms.specs.Growth.{Grows}
 use Rattle.beta_fragment.specs.Moves.{putting}
-use Rattle.beta_fragment.specs.Work.{IsLeading, work_size}
+use Rattle.beta_fragment.specs.inside.Work.{IsLeading, work_size}
 use Rattle.beta_fragment.proofs.putting.put_node.Given as goal
 
 abbrev pub invariant-loop-task : goal.invariant-loop-task

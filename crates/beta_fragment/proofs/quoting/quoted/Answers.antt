@@ -8,9 +8,9 @@ use Rattle.ref_terms.specs.terms.Occurs.{occurs}
 use Rattle.beta_fragment.specs.Body.{IsLam}
 use Rattle.beta_fragment.specs.HeadForm.{IsAbstraction}
 use Rattle.level_terms.specs.Values.{value_of}
-use Rattle.beta_fragment.specs.Cells.{terms_of, term_at, cell_term}
+use Rattle.beta_fragment.specs.inside.Cells.{terms_of, term_at, cell_term}
 use Rattle.beta_fragment.specs.Quoted.{put_head}
-use Rattle.beta_fragment.specs.Quoting.{MayStand, set_for}
+use Rattle.beta_fragment.specs.inside.Quoting.{MayStand, set_for}
 use Rattle.level_terms.proofs.ReadLemmas.{valid-below}
 use Rattle.beta_fragment.proofs.QuoteLemmas.{quotes-lam, none-keeps}
 use Rattle.beta_fragment.proofs.QuoteWork.{stand-body, body-there, no_abstraction}

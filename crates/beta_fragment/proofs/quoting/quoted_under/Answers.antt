@@ -1,8 +1,8 @@
 use Rattle.std.proofs.Common.{[], List, arith, subst, refl, ◌∙◌}
 use Rattle.level_terms.proofs.GrowthLemmas.{grows-refl, grows-trans}
 use Rattle.beta_fragment.specs.declared.quoting.Task.{Task}
-use Rattle.beta_fragment.specs.Cells.{terms_of, term_at}
-use Rattle.beta_fragment.specs.Quoting.{IsQuoting, set_for, item}
+use Rattle.beta_fragment.specs.inside.Cells.{terms_of, term_at}
+use Rattle.beta_fragment.specs.inside.Quoting.{IsQuoting, set_for, item}
 use Rattle.beta_fragment.proofs.SplitLemmas.{empty-list}
 use Rattle.beta_fragment.proofs.QuoteLemmas.{put-grown, any-grown}
 use Rattle.beta_fragment.proofs.QuoteWork.{first-quotes, ready-next, quote-older, last-quotes, some-done}

@@ -1,7 +1,7 @@
 use Rattle.std.proofs.Common.{◌≡◌, []}
 use Rattle.level_terms.specs.Growth.{Grows}
-use Rattle.beta_fragment.specs.Cells.{terms_of, term_at}
-use Rattle.beta_fragment.specs.Quoting.{IsQuoting, set_for, item, tasks_size}
+use Rattle.beta_fragment.specs.inside.Cells.{terms_of, term_at}
+use Rattle.beta_fragment.specs.inside.Quoting.{IsQuoting, set_for, item, tasks_size}
 use Rattle.beta_fragment.proofs.quoting.quoted_under.Given as goal
 
 abbrev pub invariant-loop-task : goal.invariant-loop-task

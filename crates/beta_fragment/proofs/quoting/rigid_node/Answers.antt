@@ -4,7 +4,7 @@ use Rattle.std.proofs.lemmas.Int.{to_z-of_z}
 use mir.Val.{SFits}
 use mir.Syntax.{w64}
 use Rattle.std.specs.Result.{IfOk}
-use Rattle.beta_fragment.specs.Quoting.{IsHeadOf, Quotes}
+use Rattle.beta_fragment.specs.inside.Quoting.{IsHeadOf, Quotes}
 use Rattle.std.proofs.lemmas.Result.{IfOk-weaker}
 use Rattle.ref_terms.specs.terms.Term as term
 use Rattle.ref_terms.specs.terms.Term.{At}

@@ -1,8 +1,8 @@
 use Rattle.std.proofs.Common.{◌++◌, ◌∷◌, [], subst}
 use Rattle.std.proofs.lemmas.Result.{on_ok_weaker}
 use Rattle.beta_fragment.specs.declared.quoting.Task.{Task}
-use Rattle.beta_fragment.specs.Cells.{terms_of}
-use Rattle.beta_fragment.specs.Quoting.{IsQuoting, set_for}
+use Rattle.beta_fragment.specs.inside.Cells.{terms_of}
+use Rattle.beta_fragment.specs.inside.Quoting.{IsQuoting, set_for}
 use Rattle.beta_fragment.proofs.QuoteWork.{done-smaller}
 use Rattle.beta_fragment.proofs.quoting.step.Goals as goal
 

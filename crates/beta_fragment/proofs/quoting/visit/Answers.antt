@@ -4,7 +4,7 @@ use Rattle.ref_terms.specs.terms.Term as term
 use Rattle.ref_terms.specs.terms.Term.{At}
 use Rattle.beta_fragment.specs.HeadForm.{rigid_head}
 use Rattle.level_terms.specs.Values.{value_of}
-use Rattle.beta_fragment.specs.Cells.{terms_of, term_at, cell_term}
+use Rattle.beta_fragment.specs.inside.Cells.{terms_of, term_at, cell_term}
 use Rattle.beta_fragment.specs.Quoted.{AllNamesBelow, names_with, put_head}
 use Rattle.beta_fragment.specs.declared.quoting.Task.TheVariants.{Visit}
 use Rattle.beta_fragment.proofs.QuoteLemmas.{quotes-head, var-head}

@@ -1,7 +1,7 @@
 use Rattle.std.proofs.Common.{List, sym, ap, ◌∙◌, subst}
 use Rattle.ref_terms.specs.terms.Term.{Term}
-use Rattle.beta_fragment.specs.Cells.{terms_of, cell_term}
-use Rattle.beta_fragment.specs.Quoting.{Unwinds}
+use Rattle.beta_fragment.specs.inside.Cells.{terms_of, cell_term}
+use Rattle.beta_fragment.specs.inside.Quoting.{Unwinds}
 use Rattle.beta_fragment.proofs.QuoteWork.{unwinds-first, unwinds-next, visit-app, app-smaller, front-there, last-there}
 use Rattle.beta_fragment.proofs.quoting.visit_app.Goals as goal
 

@@ -1,5 +1,5 @@
-use Rattle.beta_fragment.specs.Cells.{terms_of}
-use Rattle.beta_fragment.specs.Quoting.{Unwinds}
+use Rattle.beta_fragment.specs.inside.Cells.{terms_of}
+use Rattle.beta_fragment.specs.inside.Quoting.{Unwinds}
 use Rattle.beta_fragment.proofs.quoting.visit_app.Given as goal
 
 abbrev pub invariant-loop-inner : goal.invariant-loop-inner

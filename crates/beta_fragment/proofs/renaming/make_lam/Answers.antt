@@ -1,7 +1,7 @@
 use Rattle.std.proofs.Common.{◌++◌, ◌∷◌, [], List, length, sym, subst}
 use Rattle.level_terms.specs.Sound.{AllOlder}
 use Rattle.level_terms.specs.declared.node.TermId.{TermId}
-use Rattle.beta_fragment.specs.Work.{Steps}
+use Rattle.beta_fragment.specs.inside.Work.{Steps}
 use Rattle.beta_fragment.specs.declared.renaming.Task.TheVariants.{Lam}
 use Rattle.level_terms.proofs.MakeLemmas.{older-append, older-grown, older-front, older-last}
 use Rattle.beta_fragment.proofs.WorkLemmas.{steps-lam}

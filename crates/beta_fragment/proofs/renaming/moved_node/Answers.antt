@@ -6,7 +6,7 @@ use Rattle.beta_fragment.specs.declared.renaming.Task.{Task}
 use Rattle.beta_fragment.specs.declared.renaming.Task.TheVariants.{Visit}
 use Rattle.beta_fragment.specs.Moves.{naming}
 use Rattle.level_terms.specs.Values.{value_of}
-use Rattle.beta_fragment.specs.Work.{Leads, IsLeading, work_size}
+use Rattle.beta_fragment.specs.inside.Work.{Leads, IsLeading, work_size}
 use Rattle.level_terms.proofs.MakeLemmas.{older-last}
 use Rattle.beta_fragment.proofs.LiftLemmas.{all-stay}
 use Rattle.level_terms.proofs.ReadLemmas.{valid-below}

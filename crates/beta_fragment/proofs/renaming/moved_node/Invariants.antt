@@ -2,7 +2,7 @@ use Rattle.std.proofs.Common.{◌≡◌, length, [], reverse}
 use Rattle.level_terms.specs.Sound.{AllOlder}
 use Rattle.level_terms.specs.Growth.{Grows}
 use Rattle.beta_fragment.specs.Moves.{naming}
-use Rattle.beta_fragment.specs.Work.{IsLeading, work_size}
+use Rattle.beta_fragment.specs.inside.Work.{IsLeading, work_size}
 use Rattle.beta_fragment.proofs.renaming.moved_node.Given as goal
 
 abbrev pub invariant-loop-task : goal.invariant-loop-task

@@ -1,6 +1,6 @@
 use Rattle.std.proofs.Common.{◌≡◌, ◌<◌, ◌-◌, ◌++◌, ◌∷◌, suc, reverse, drop, length, sym, ap, ◌∙◌, arith, append-nil, get_or}
 use Rattle.beta_fragment.specs.declared.renaming.Task.TheVariants.{Visit}
-use Rattle.beta_fragment.specs.Work.{visits}
+use Rattle.beta_fragment.specs.inside.Work.{visits}
 use Rattle.beta_fragment.proofs.VisitLemmas.{drop_all, drop_one, push_step}
 use Rattle.beta_fragment.proofs.renaming.push_visits.Goals as goal
 

@@ -1,5 +1,5 @@
 use Rattle.std.proofs.Common.{◌≡◌, ◌≤◌, ◌++◌, length, reverse, drop}
-use Rattle.beta_fragment.specs.Work.{visits}
+use Rattle.beta_fragment.specs.inside.Work.{visits}
 use Rattle.beta_fragment.proofs.renaming.push_visits.Given as goal
 
 abbrev pub invariant-loop-i : goal.invariant-loop-i

@@ -1,6 +1,6 @@
 use Rattle.std.proofs.Common.{◌≡◌, ◌++◌, ◌∷◌, [], List, length, reverse, refl, sym, subst}
 use Rattle.beta_fragment.specs.Moves.{naming}
-use Rattle.beta_fragment.specs.Work.{Steps, visits}
+use Rattle.beta_fragment.specs.inside.Work.{Steps, visits}
 use Rattle.beta_fragment.specs.declared.renaming.Task.{Task}
 use Rattle.beta_fragment.specs.declared.renaming.Task.TheVariants.{Visit, App}
 use Rattle.level_terms.proofs.ReadLemmas.{valid-below}

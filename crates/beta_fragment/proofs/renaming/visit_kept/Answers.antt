@@ -3,7 +3,7 @@ use Rattle.level_terms.specs.Sound.{AllOlder}
 use Rattle.level_terms.specs.declared.node.TermId.{TermId}
 use Rattle.level_terms.proofs.GrowthLemmas.{grows-refl}
 use Rattle.level_terms.proofs.ValidLemmas.{growth_keeps_valid}
-use Rattle.beta_fragment.specs.Work.{Steps}
+use Rattle.beta_fragment.specs.inside.Work.{Steps}
 use Rattle.beta_fragment.specs.Moves.{naming}
 use Rattle.level_terms.specs.Values.{Value, value_of}
 use Rattle.beta_fragment.specs.declared.renaming.Task.TheVariants.{Visit}

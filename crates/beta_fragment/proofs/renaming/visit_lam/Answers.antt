@@ -1,6 +1,6 @@
 use Rattle.std.proofs.Common.{◌≡◌, ◌+◌, ◌-◌, ◌++◌, ◌∷◌, [], List, min, refl, ap, ap₂, sym, ◌∙◌, subst, append_assoc}
 use Rattle.beta_fragment.specs.Moves.{naming}
-use Rattle.beta_fragment.specs.Work.{Steps}
+use Rattle.beta_fragment.specs.inside.Work.{Steps}
 use Rattle.beta_fragment.specs.declared.renaming.Task.{Task}
 use Rattle.beta_fragment.specs.declared.renaming.Task.TheVariants.{Visit, Lam}
 use Rattle.level_terms.proofs.ReadLemmas.{valid-below}

@@ -2,7 +2,7 @@ use Rattle.std.proofs.Common.{◌++◌, ◌∷◌, [], List, length, sym, subst}
 use Rattle.level_terms.specs.Sound.{AllOlder}
 use Rattle.level_terms.specs.declared.node.TermId.{TermId}
 use Rattle.level_terms.proofs.GrowthLemmas.{grows-refl}
-use Rattle.beta_fragment.specs.Work.{Steps}
+use Rattle.beta_fragment.specs.inside.Work.{Steps}
 use Rattle.beta_fragment.specs.Moves.{naming}
 use Rattle.level_terms.specs.Values.{value_of, IsLevelOf}
 use Rattle.beta_fragment.specs.declared.renaming.Task.TheVariants.{Visit}

@@ -2,7 +2,7 @@ use Rattle.std.proofs.Common.{◌≡◌, ◌++◌, ◌∷◌, [], List, length, 
 use Rattle.level_terms.specs.Sound.{AllOlder}
 use Rattle.level_terms.specs.declared.node.TermId.{TermId}
 use Rattle.level_terms.proofs.GrowthLemmas.{grows-refl}
-use Rattle.beta_fragment.specs.Work.{Steps}
+use Rattle.beta_fragment.specs.inside.Work.{Steps}
 use Rattle.beta_fragment.specs.Moves.{naming, IsMovedVar}
 use Rattle.level_terms.specs.Values.{value_of}
 use Rattle.beta_fragment.specs.declared.renaming.Task.{Task}

@@ -1,7 +1,7 @@
 use Rattle.std.proofs.Common.{◌∙◌, [], reverse, ap, subst, arith, refl}
 use Rattle.level_terms.proofs.GrowthLemmas.{grows-refl, grows-trans}
-use Rattle.beta_fragment.specs.Cells.{terms_of, term_at}
-use Rattle.beta_fragment.specs.Settled.{IsQuotable}
+use Rattle.beta_fragment.specs.inside.Cells.{terms_of, term_at}
+use Rattle.beta_fragment.specs.inside.Settled.{IsQuotable}
 use Rattle.beta_fragment.proofs.SettledLemmas.{quotable-arg, unwound-first, unwound-next, rigid-form, flex-form, no-index}
 use Rattle.beta_fragment.proofs.settling.form_of.Goals as goal
 

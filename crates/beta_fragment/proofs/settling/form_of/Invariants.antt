@@ -1,7 +1,7 @@
 use Rattle.std.proofs.Common.{◌≡◌, ◌<◌, length, []}
 use Rattle.level_terms.specs.Growth.{Grows}
-use Rattle.beta_fragment.specs.Cells.{terms_of, term_at}
-use Rattle.beta_fragment.specs.Settled.{IsUnwound}
+use Rattle.beta_fragment.specs.inside.Cells.{terms_of, term_at}
+use Rattle.beta_fragment.specs.inside.Settled.{IsUnwound}
 use Rattle.beta_fragment.proofs.settling.form_of.Given as goal
 
 abbrev pub invariant-loop-f : goal.invariant-loop-f

@@ -2,7 +2,7 @@ use Rattle.std.proofs.Common.{◌∙◌, sym, subst, reverse, []}
 use Rattle.std.proofs.lemmas.Result.{IfOk-weaker}
 use Rattle.level_terms.proofs.GrowthLemmas.{grows-refl}
 use Rattle.beta_fragment.specs.HeadForm.{IsHeadForm}
-use Rattle.beta_fragment.specs.Cells.{terms_of, term_at}
+use Rattle.beta_fragment.specs.inside.Cells.{terms_of, term_at}
 use Rattle.beta_fragment.proofs.QuotableLemmas.{quotable-spine}
 use Rattle.beta_fragment.proofs.settling.settled.Goals as goal
 

@@ -1,7 +1,7 @@
 use Rattle.std.proofs.Common.{◌≡◌, ◌+◌, [], reverse, length}
 use Rattle.level_terms.specs.Growth.{Grows}
 use Rattle.ref_terms.specs.terms.Term.{Term}
-use Rattle.beta_fragment.specs.Standing.{FoundAs}
+use Rattle.beta_fragment.specs.inside.Standing.{FoundAs}
 use Rattle.beta_fragment.proofs.standing.placed.Given as goal
 
 abbrev pub invariant-loop-put : goal.invariant-loop-put

@@ -8,7 +8,7 @@ use Rattle.ref_terms.specs.terms.Term.{Term}
 use Rattle.ref_terms.specs.terms.Apply.{fill}
 use Rattle.beta_fragment.specs.Names.{names}
 use Rattle.beta_fragment.specs.Moves.{put_name}
-use Rattle.beta_fragment.specs.Standing.{ArePut}
+use Rattle.beta_fragment.specs.inside.Standing.{ArePut}
 use Rattle.level_terms.proofs.ReadLemmas.{valid-below, grown-reads}
 use Rattle.beta_fragment.proofs.StandLemmas.{puts-reads, puts-valid, puts-grown, puts-last, valid-nth}
 use Rattle.beta_fragment.proofs.standing.put_each.Goals as goal

@@ -2,7 +2,7 @@ use Rattle.std.proofs.Common.{◌≡◌, [], take}
 use Rattle.level_terms.specs.Growth.{Grows}
 use Rattle.level_terms.specs.Reading.{read}
 use Rattle.beta_fragment.specs.Names.{names}
-use Rattle.beta_fragment.specs.Standing.{ArePut}
+use Rattle.beta_fragment.specs.inside.Standing.{ArePut}
 use Rattle.beta_fragment.proofs.standing.put_each.Given as goal
 
 abbrev pub invariant-loop-t : goal.invariant-loop-t

@@ -1,7 +1,7 @@
 use Rattle.std.proofs.Common.{◌≡◌, ◌+◌, ◌-◌, suc, Some, None, option_map, ap, ◌∙◌, arith, sym}
 use Rattle.ref_terms.specs.terms.Term as term
-use Rattle.beta_fragment.specs.Taking.{images, outside, raised}
-use Rattle.beta_fragment.specs.Cells.{term_at}
+use Rattle.beta_fragment.specs.inside.Taking.{images, outside, raised}
+use Rattle.beta_fragment.specs.inside.Cells.{term_at}
 use Rattle.beta_fragment.specs.declared.taking.Replacement.TheVariants.{Part, Missing, Raised}
 use Rattle.beta_fragment.proofs.TakingLaws.{image-at, image-lower_part, image-lower_missing}
 use Rattle.beta_fragment.proofs.taking.image.Goals as goal

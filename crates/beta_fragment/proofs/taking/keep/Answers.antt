@@ -1,4 +1,4 @@
-use Rattle.beta_fragment.specs.Cells.{terms_of, term_at}
+use Rattle.beta_fragment.specs.inside.Cells.{terms_of, term_at}
 use Rattle.std.proofs.Common.{refl}
 use Rattle.beta_fragment.proofs.CellLemmas.{gains-refl}
 use Rattle.beta_fragment.proofs.TakingSteps.{kept-steps}

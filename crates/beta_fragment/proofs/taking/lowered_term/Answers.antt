@@ -1,5 +1,5 @@
 use Rattle.std.proofs.Common.{subst, IfOk}
-use Rattle.beta_fragment.specs.Cells.{terms_of, term_at, IsKeptIfAny}
+use Rattle.beta_fragment.specs.inside.Cells.{terms_of, term_at, IsKeptIfAny}
 use Rattle.beta_fragment.proofs.TakingLaws.{lowered-image}
 use Rattle.beta_fragment.proofs.taking.lowered_term.Goals as goal
 

@@ -1,7 +1,7 @@
 use Rattle.std.proofs.Common.{length, reverse, subst}
 use Rattle.ref_terms.specs.terms.Term as term
-use Rattle.beta_fragment.specs.Cells.{terms_of, term_at}
-use Rattle.beta_fragment.specs.Taking.{AllThere}
+use Rattle.beta_fragment.specs.inside.Cells.{terms_of, term_at}
+use Rattle.beta_fragment.specs.inside.Taking.{AllThere}
 use Rattle.beta_fragment.proofs.KeptLemmas.{added-kept, added-gains}
 use Rattle.beta_fragment.proofs.TakingSteps.{pushed, pushed-there, done-there, makes-lam}
 use Rattle.beta_fragment.proofs.taking.make_lam.Goals as goal

@@ -1,6 +1,6 @@
 use Rattle.std.proofs.Common.{subst, None, Some}
-use Rattle.beta_fragment.specs.Cells.{terms_of, term_at, IsKeptIfAny}
-use Rattle.beta_fragment.specs.Taking.{replaced, with_first}
+use Rattle.beta_fragment.specs.inside.Cells.{terms_of, term_at, IsKeptIfAny}
+use Rattle.beta_fragment.specs.inside.Taking.{replaced, with_first}
 use Rattle.beta_fragment.proofs.TakingLaws.{opened-image}
 use Rattle.beta_fragment.proofs.taking.opened_term.Goals as goal
 

@@ -1,6 +1,6 @@
 use Rattle.std.proofs.Common.{List, map, reverse, subst}
-use Rattle.beta_fragment.specs.Cells.{terms_of, term_at}
-use Rattle.beta_fragment.specs.Taking.{Comes, Goes, outside, replaced}
+use Rattle.beta_fragment.specs.inside.Cells.{terms_of, term_at}
+use Rattle.beta_fragment.specs.inside.Taking.{Comes, Goes, outside, replaced}
 use Rattle.beta_fragment.specs.declared.taking.Task.{Task}
 use Rattle.beta_fragment.proofs.CellLemmas.{gains-trans}
 use Rattle.beta_fragment.proofs.TakingSteps.{pushed}

@@ -1,6 +1,6 @@
 use Rattle.std.proofs.Common.{length, map, reverse}
-use Rattle.beta_fragment.specs.Cells.{terms_of, term_at, Gains}
-use Rattle.beta_fragment.specs.Taking.{Comes, replaced, outside, AllThere, work_size}
+use Rattle.beta_fragment.specs.inside.Cells.{terms_of, term_at, Gains}
+use Rattle.beta_fragment.specs.inside.Taking.{Comes, replaced, outside, AllThere, work_size}
 use Rattle.beta_fragment.proofs.taking.taken.Given as goal
 
 abbrev pub invariant-loop-task : goal.invariant-loop-task

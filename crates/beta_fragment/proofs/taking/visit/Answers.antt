@@ -1,6 +1,6 @@
 use Rattle.std.proofs.Common.{Some, ap, sym, ◌∙◌}
-use Rattle.beta_fragment.specs.Cells.{terms_of}
-use Rattle.beta_fragment.specs.Taking.{images, replaced}
+use Rattle.beta_fragment.specs.inside.Cells.{terms_of}
+use Rattle.beta_fragment.specs.inside.Taking.{images, replaced}
 use Rattle.beta_fragment.proofs.TakingLaws.{image-inside}
 use Rattle.beta_fragment.proofs.taking.visit.Goals as goal
 

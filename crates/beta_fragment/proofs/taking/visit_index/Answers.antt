@@ -1,8 +1,8 @@
 use Rattle.std.proofs.Common.{◌≡◌, length, reverse, Some, sym, ap, ◌∙◌, subst}
 use Rattle.ref_terms.specs.terms.Term as term
 use Rattle.ref_terms.specs.terms.Term.{Term}
-use Rattle.beta_fragment.specs.Cells.{terms_of, term_at}
-use Rattle.beta_fragment.specs.Taking.{IsImage, PartThere, IsHeadTerm, images, replaced}
+use Rattle.beta_fragment.specs.inside.Cells.{terms_of, term_at}
+use Rattle.beta_fragment.specs.inside.Taking.{IsImage, PartThere, IsHeadTerm, images, replaced}
 use Rattle.beta_fragment.proofs.TakingSteps.{steps-none}
 use Rattle.beta_fragment.proofs.taking.visit_index.Goals as goal
 

@@ -1,4 +1,4 @@
-use Rattle.beta_fragment.specs.Cells.{terms_of}
+use Rattle.beta_fragment.specs.inside.Cells.{terms_of}
 use Rattle.beta_fragment.proofs.TakingSteps.{visits-lam}
 use Rattle.beta_fragment.proofs.taking.visit_lam.Goals as goal
 

@@ -1,5 +1,5 @@
 use Rattle.ref_terms.specs.terms.Term as term
-use Rattle.beta_fragment.specs.Cells.{terms_of}
+use Rattle.beta_fragment.specs.inside.Cells.{terms_of}
 use Rattle.beta_fragment.proofs.KeptLemmas.{added-kept, added-gains}
 use Rattle.beta_fragment.proofs.TakingSteps.{pushed-there, done-there, kept-steps}
 use Rattle.std.proofs.Common.{reverse}

@@ -1,5 +1,5 @@
 use Rattle.std.proofs.Common.{length, reverse}
-use Rattle.beta_fragment.specs.Cells.{terms_of}
+use Rattle.beta_fragment.specs.inside.Cells.{terms_of}
 use Rattle.beta_fragment.proofs.TakingSteps.{part-steps, raised-steps}
 use Rattle.beta_fragment.proofs.taking.visit_part.Goals as goal
 

@@ -3,7 +3,7 @@ use Rattle.std.specs.Prelude.{MatchOption}
 use Rattle.std.specs.declared.option.Option.{Option}
 use Rattle.elpi_cli.specs.declared.horn.Span.{Span}
 use Rattle.elpi_cli.specs.Forms.{is_horn_goal}
-use Rattle.elpi_cli.specs.Conversion.{IsGoalOf}
+use Rattle.elpi_cli.specs.inside.Conversion.{IsGoalOf}
 use Rattle.elpi_cli.proofs.Kept.{query-read}
 use Rattle.elpi_cli.proofs.convert.horn_query.Goals as goal
 

@@ -1,5 +1,5 @@
 use Rattle.std.proofs.Common.{◌≡◌, ℕ, [], take, slice_index_or}
-use Rattle.elpi_cli.specs.HornProgram.{places_of}
+use Rattle.elpi_cli.specs.inside.HornProgram.{places_of}
 use Rattle.elpi_cli.proofs.convert.index_clauses.Given as goal
 
 -- the places of the clauses so far

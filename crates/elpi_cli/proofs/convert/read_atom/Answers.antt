@@ -4,7 +4,7 @@ use Rattle.std.specs.List.{list_all}
 use Rattle.std.specs.declared.option.Option.{Option}
 use Rattle.ref_terms.specs.declared.tree.Tree.{Tree}
 use Rattle.elpi_cli.specs.Forms.{is_word}
-use Rattle.elpi_cli.specs.Conversion.{AreWordsOf}
+use Rattle.elpi_cli.specs.inside.Conversion.{AreWordsOf}
 use Rattle.elpi_cli.proofs.Converted.{atom-read}
 use Rattle.elpi_cli.proofs.convert.read_atom.Goals as goal
 

@@ -5,7 +5,7 @@ use Rattle.std.specs.declared.option.Option.{Option}
 use Rattle.lp_resolve.specs.declared.program.ClauseTree.{ClauseTree}
 use Rattle.elpi_cli.specs.declared.horn.HornClause.{HornClause}
 use Rattle.elpi_cli.specs.Forms.{is_horn_clause}
-use Rattle.elpi_cli.specs.Conversion.{IsClauseOf}
+use Rattle.elpi_cli.specs.inside.Conversion.{IsClauseOf}
 use Rattle.elpi_cli.proofs.Kept.{ClausesRead, clauses-more}
 use Rattle.elpi_cli.proofs.convert.read_clauses.Goals as goal
 

@@ -4,7 +4,7 @@ use Rattle.std.specs.declared.option.Option.{Option}
 use Rattle.elpi_cli.specs.declared.horn.Atom.{Atom}
 use Rattle.elpi_cli.specs.declared.horn.Span.{Span}
 use Rattle.elpi_cli.specs.Forms.{is_atom}
-use Rattle.elpi_cli.specs.Conversion.{IsAtomOf, IsLastOf}
+use Rattle.elpi_cli.specs.inside.Conversion.{IsAtomOf, IsLastOf}
 use Rattle.elpi_cli.proofs.Converted.{goal-more, goal-none, goal-last, last-goal, no-comma}
 use Rattle.elpi_cli.proofs.convert.read_goal.Goals as goal
 

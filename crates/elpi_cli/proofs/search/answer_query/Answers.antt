@@ -1,5 +1,5 @@
 use Rattle.std.proofs.Common.{◌-◌, ◌+◌, ◌<◌, ◌≡◌, arith}
-use Rattle.elpi_cli.specs.HornOutput.{horn_events}
+use Rattle.elpi_cli.specs.inside.HornOutput.{horn_events}
 use Rattle.elpi_cli.specs.Reading.{reading}
 use Rattle.elpi_cli.proofs.Progress.{finishes, goes_on}
 use Rattle.elpi_cli.proofs.HornEvents.{events-move}

@@ -1,5 +1,5 @@
 use Rattle.std.proofs.Common.{◌≤◌, ◌-◌}
-use Rattle.elpi_cli.specs.HornOutput.{horn_events, horn_written}
+use Rattle.elpi_cli.specs.inside.HornOutput.{horn_events, horn_written}
 use Rattle.elpi_cli.specs.Reading.{reading}
 use Rattle.elpi_cli.specs.Written.{Progress}
 use Rattle.elpi_cli.proofs.search.answer_query.Given as goal

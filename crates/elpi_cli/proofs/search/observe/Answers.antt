@@ -1,7 +1,7 @@
 use Rattle.std.proofs.Common.{◌+◌, [], ◌∷◌, if◌then◌else◌, nat_eq, codes, eq-eqb}
 use Rattle.elpi_cli.specs.declared.status.Status.TheVariants.{Done}
 use Rattle.elpi_cli.specs.Output.{line, line_only}
-use Rattle.elpi_cli.specs.HornOutput.{horn_written, plain_block}
+use Rattle.elpi_cli.specs.inside.HornOutput.{horn_written, plain_block}
 use Rattle.elpi_cli.proofs.Progress.{joined}
 use Rattle.elpi_cli.proofs.search.observe.Goals as goal
 

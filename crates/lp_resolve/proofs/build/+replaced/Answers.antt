@@ -3,9 +3,9 @@ use Rattle.std.specs.Option.{option_map}
 use Rattle.ref_terms.specs.terms.Eta.{partial, up_partial}
 use Rattle.ref_terms.specs.declared.tree.Tree.{Tree}
 use Rattle.ref_terms.specs.declared.tree.Head.{Head}
-use Rattle.lp_resolve.specs.Replacing.{replacing}
+use Rattle.lp_resolve.specs.inside.Replacing.{replacing}
 use Rattle.lp_resolve.specs.Trees.{as_term, head_term}
-use Rattle.lp_resolve.specs.Build.{all_terms}
+use Rattle.lp_resolve.specs.inside.Build.{all_terms}
 use Rattle.lp_resolve.proofs.TreesReplaced.{replaced-lam, replaced-ap, replaced-headless}
 use Rattle.lp_resolve.proofs.build.+replaced.Goals as goal
 

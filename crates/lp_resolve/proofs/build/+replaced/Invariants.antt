@@ -1,9 +1,9 @@
 use Rattle.std.proofs.Common.{◌≡◌, ◌++◌, map, drop}
 use Rattle.std.specs.Option.{option_map}
 use Rattle.ref_terms.specs.terms.Eta.{partial}
-use Rattle.lp_resolve.specs.Replacing.{replacing}
+use Rattle.lp_resolve.specs.inside.Replacing.{replacing}
 use Rattle.lp_resolve.specs.Trees.{as_term, shape}
-use Rattle.lp_resolve.specs.Build.{all_terms}
+use Rattle.lp_resolve.specs.inside.Build.{all_terms}
 use Rattle.lp_resolve.proofs.build.+replaced.Given as goal
 
 -- the answers are those of the trees before, and the rest is left

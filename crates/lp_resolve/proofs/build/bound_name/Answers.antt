@@ -2,7 +2,7 @@ use Rattle.std.proofs.Common.{◌≡◌, ◌∙◌, ℕ, ◌<◌, List, None, le
 use Rattle.ref_terms.specs.terms.Term.{Term}
 use Rattle.ref_terms.specs.declared.tree.Tree.{Tree}
 use Rattle.lp_resolve.specs.Trees.{as_term, head_term, with_arguments}
-use Rattle.lp_resolve.specs.Build.{bound_index}
+use Rattle.lp_resolve.specs.inside.Build.{bound_index}
 use Rattle.lp_resolve.proofs.TreeForms.{term-ap}
 use Rattle.lp_resolve.proofs.Arguments.{applied-unbound}
 use Rattle.lp_resolve.proofs.build.bound_name.Goals as goal

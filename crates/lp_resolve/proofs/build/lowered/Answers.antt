@@ -4,9 +4,9 @@ use Rattle.ref_terms.specs.terms.Term.{Term}
 use Rattle.ref_terms.specs.terms.Eta.{partial, lower}
 use Rattle.ref_terms.specs.declared.tree.Tree.{Tree}
 use Rattle.ref_terms.specs.declared.tree.Head.{Head}
-use Rattle.lp_resolve.specs.Replacing.{replacing}
+use Rattle.lp_resolve.specs.inside.Replacing.{replacing}
 use Rattle.lp_resolve.specs.Trees.{as_term, head_term, with_arguments}
-use Rattle.lp_resolve.specs.Build.{all_terms}
+use Rattle.lp_resolve.specs.inside.Build.{all_terms}
 use Rattle.lp_resolve.proofs.Contracting.{lower-replacing}
 use Rattle.lp_resolve.proofs.TreesReplaced.{replaced-terms, headless-terms}
 use Rattle.lp_resolve.proofs.TreeForms.{term-ap}

@@ -1,6 +1,6 @@
 use Rattle.std.proofs.Common.{◌≡◌, ◌∙◌, ℕ, ◌+◌, Some, None, sym, ap, subst, arith}
 use Rattle.std.specs.Option.{option_map}
-use Rattle.lp_resolve.specs.Replacing.{replacing}
+use Rattle.lp_resolve.specs.inside.Replacing.{replacing}
 use Rattle.lp_resolve.proofs.Replacing.{replacing-below, replacing-here, replacing-above}
 use Rattle.lp_resolve.proofs.build.replaced_index.Goals as goal
 

@@ -2,7 +2,7 @@ use Rattle.std.proofs.Common.{ℕ, List, length, ◌≡◌, ◌∙◌, ap, sym, 
 use Rattle.lp_resolve.specs.ProgramReading.{program_of}
 use Rattle.lp_resolve.specs.WellFormed.{IsWellFormed}
 use Rattle.lp_resolve.specs.ProgramTexts.{program_texts}
-use Rattle.lp_resolve.specs.ProgramNamed.{IsProgramNamed}
+use Rattle.lp_resolve.specs.inside.ProgramNamed.{IsProgramNamed}
 use Rattle.lp_resolve.proofs.BeginsLemmas.{begins-trans}
 use Rattle.lp_resolve.proofs.ReadingNamed.{AreIn, interned-in}
 use Rattle.lp_resolve.proofs.ProgramNamedLemmas.{program_of-named, reserved-long}

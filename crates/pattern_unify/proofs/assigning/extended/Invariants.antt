@@ -1,6 +1,6 @@
 use Rattle.std.proofs.Common.{◌≡◌, ◌≤◌, ◌-◌, []}
 use Rattle.level_terms.specs.Growth.{Grows}
-use Rattle.pattern_unify.specs.Closed.{ClosesAlike}
+use Rattle.pattern_unify.specs.inside.Closed.{ClosesAlike}
 use Rattle.pattern_unify.proofs.assigning.extended.Given as goal
 
 abbrev pub invariant-loop-level : goal.invariant-loop-level

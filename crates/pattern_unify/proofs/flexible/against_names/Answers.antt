@@ -8,7 +8,7 @@ use Rattle.ref_terms.specs.unification.Pattern.{of_name}
 use Rattle.beta_fragment.specs.Names.{names}
 use Rattle.level_terms.proofs.ReadLemmas.{valid-below}
 use Rattle.pattern_unify.specs.Bound.{NamesAmong}
-use Rattle.pattern_unify.specs.Verdicts.{verdict_of}
+use Rattle.pattern_unify.specs.inside.Verdicts.{verdict_of}
 use Rattle.pattern_unify.proofs.EquationLemmas.{equation_valid-kept, equations_valid-kept}
 use Rattle.pattern_unify.proofs.KeptLemmas.{open-kept, frozen-grown, frozen-after, grows-after}
 use Rattle.pattern_unify.proofs.NamedSpines.{fine-among, fine-absent}

@@ -2,7 +2,7 @@ use Rattle.std.proofs.Common.{ap}
 use Rattle.level_terms.specs.Reading.{read}
 use Rattle.ref_terms.specs.unification.Closing.{names_below}
 use Rattle.beta_fragment.specs.Names.{names}
-use Rattle.pattern_unify.specs.Verdicts.{verdict_of}
+use Rattle.pattern_unify.specs.inside.Verdicts.{verdict_of}
 use Rattle.pattern_unify.proofs.FlexibleTurns.{binds, turns-each}
 use Rattle.pattern_unify.proofs.flexible.by_verdict_in_scope.Goals as goal
 

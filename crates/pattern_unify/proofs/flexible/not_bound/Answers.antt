@@ -3,8 +3,8 @@ use Rattle.level_terms.proofs.GrowthLemmas.{grows-refl}
 use Rattle.ref_terms.specs.unification.Problem.{Binding}
 use Rattle.ref_terms.specs.unification.Rules.{headed_by_name, by_verdict as reference_by_verdict}
 use Rattle.ref_terms.specs.unification.Spine.{head_of}
-use Rattle.pattern_unify.specs.Equations.{equation_at, equations_at, problem_at}
-use Rattle.pattern_unify.specs.Verdicts.{verdict_of}
+use Rattle.pattern_unify.specs.inside.Equations.{equation_at, equations_at, problem_at}
+use Rattle.pattern_unify.specs.inside.Verdicts.{verdict_of}
 use Rattle.pattern_unify.proofs.FlexibleTurns.{drops}
 use Rattle.pattern_unify.proofs.flexible.not_bound.Goals as goal
 

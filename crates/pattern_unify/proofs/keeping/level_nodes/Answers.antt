@@ -3,7 +3,7 @@ use Rattle.std.proofs.lemmas.List.{take_more}
 use Rattle.level_terms.specs.declared.node.Node.TheVariants.{Level}
 use Rattle.level_terms.specs.declared.node.TermId.{TermId}
 use Rattle.level_terms.proofs.GrowthLemmas.{grows-refl, grows-trans}
-use Rattle.pattern_unify.specs.Keeping.{AreLevels}
+use Rattle.pattern_unify.specs.inside.Keeping.{AreLevels}
 use Rattle.pattern_unify.proofs.KeepNodes.{levels-kept, levels-last, node-made, depths-made}
 use Rattle.pattern_unify.proofs.keeping.level_nodes.Goals as goal
 

@@ -1,6 +1,6 @@
 use Rattle.std.proofs.Common.{◌≡◌, [], take}
 use Rattle.level_terms.specs.Growth.{Grows}
-use Rattle.pattern_unify.specs.Keeping.{AreLevels}
+use Rattle.pattern_unify.specs.inside.Keeping.{AreLevels}
 use Rattle.pattern_unify.proofs.keeping.level_nodes.Given as goal
 
 abbrev pub invariant-loop-level : goal.invariant-loop-level

@@ -1,5 +1,5 @@
 use Rattle.std.proofs.Common.{◌≡◌, ◌∙◌, ℕ, suc, ◌+◌, sym, ap, refl, Some, cond, drop, arith}
-use Rattle.pattern_unify.specs.Searching.{unknown_from}
+use Rattle.pattern_unify.specs.inside.Searching.{unknown_from}
 use Rattle.pattern_unify.proofs.OffenceSpines.{unknown-step, drop-end}
 use Rattle.pattern_unify.proofs.offence.first_unknown.Goals as goal
 

@@ -1,5 +1,5 @@
 use Rattle.std.proofs.Common.{◌≡◌, ◌≤◌, ◌-◌, length, drop}
-use Rattle.pattern_unify.specs.Searching.{unknown_from}
+use Rattle.pattern_unify.specs.inside.Searching.{unknown_from}
 use Rattle.pattern_unify.proofs.offence.first_unknown.Given as goal
 
 abbrev pub invariant-loop-i : goal.invariant-loop-i

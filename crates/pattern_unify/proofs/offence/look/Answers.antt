@@ -5,7 +5,7 @@ use Rattle.level_terms.proofs.GrowthLemmas.{grows-trans}
 use Rattle.beta_fragment.specs.declared.answer.Whnf.{Whnf}
 use Rattle.beta_fragment.specs.HeadForm.{IsHeadForm}
 use Rattle.beta_fragment.specs.Names.{names}
-use Rattle.pattern_unify.specs.Searching.{searching, subterm}
+use Rattle.pattern_unify.specs.inside.Searching.{searching, subterm}
 use Rattle.pattern_unify.proofs.SearchLemmas.{names-low, looks-rigid, looks-redex}
 use Rattle.pattern_unify.proofs.offence.look.Goals as goal
 

@@ -1,7 +1,7 @@
 use Rattle.std.proofs.Common.{◌∙◌, arith}
 use Rattle.level_terms.specs.Reading.{read}
 use Rattle.beta_fragment.specs.Names.{names}
-use Rattle.pattern_unify.specs.Searching.{searching}
+use Rattle.pattern_unify.specs.inside.Searching.{searching}
 use Rattle.pattern_unify.proofs.SearchLemmas.{names-low, looks-opened}
 use Rattle.pattern_unify.proofs.offence.look_abstraction.Goals as goal
 

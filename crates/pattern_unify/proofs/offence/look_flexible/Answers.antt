@@ -7,7 +7,7 @@ use Rattle.ref_terms.specs.unification.Pattern.{pattern_of}
 use Rattle.beta_fragment.specs.HeadForm.{all_read}
 use Rattle.beta_fragment.proofs.HeadLemmas.{read-grown_all, valid-grown_all}
 use Rattle.level_terms.proofs.MakeLemmas.{below_true}
-use Rattle.pattern_unify.specs.Searching.{searching, spine_says, LooksAt}
+use Rattle.pattern_unify.specs.inside.Searching.{searching, spine_says, LooksAt}
 use Rattle.pattern_unify.specs.declared.offence.Verdict.TheVariants.{Fine}
 use Rattle.pattern_unify.proofs.KeptLemmas.{open-kept}
 use Rattle.pattern_unify.proofs.SearchLemmas.{looks-itself, looks-frozen, looks-pattern, looks-loose, pattern-found, pattern-missing, below-found, below_false}

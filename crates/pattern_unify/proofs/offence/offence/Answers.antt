@@ -3,7 +3,7 @@ use Rattle.level_terms.specs.Reading.{read}
 use Rattle.ref_terms.specs.unification.Offence.{offence}
 use Rattle.beta_fragment.specs.Names.{names}
 use Rattle.pattern_unify.specs.declared.offence.Verdict.{Verdict}
-use Rattle.pattern_unify.specs.Verdicts.{verdict_of}
+use Rattle.pattern_unify.specs.inside.Verdicts.{verdict_of}
 use Rattle.pattern_unify.proofs.OffenceSpines.{known-first}
 use Rattle.pattern_unify.proofs.offence.offence.Goals as goal
 

@@ -1,6 +1,6 @@
 use Rattle.std.proofs.Common.{◌≡◌, ◌<◌, ◌-◌, ◌++◌, ◌∷◌, suc, List, reverse, map, drop, length, sym, ap, ◌∙◌, arith, append-nil, get_or}
 use Rattle.pattern_unify.specs.declared.offence.Subterm.{Subterm}
-use Rattle.pattern_unify.specs.Searching.{subterm}
+use Rattle.pattern_unify.specs.inside.Searching.{subterm}
 use Rattle.pattern_unify.proofs.SearchLemmas.{parts-end, parts-one, parts-step}
 use Rattle.pattern_unify.proofs.offence.push_subterms.Goals as goal
 

@@ -1,5 +1,5 @@
 use Rattle.std.proofs.Common.{◌≡◌, ◌≤◌, ◌++◌, length, reverse, map, drop}
-use Rattle.pattern_unify.specs.Searching.{subterm}
+use Rattle.pattern_unify.specs.inside.Searching.{subterm}
 use Rattle.pattern_unify.proofs.offence.push_subterms.Given as goal
 
 abbrev pub invariant-loop-i : goal.invariant-loop-i

@@ -3,7 +3,7 @@ use Rattle.level_terms.proofs.GrowthLemmas.{grows-refl, grows-trans}
 use Rattle.beta_fragment.proofs.SplitLemmas.{empty-list}
 use Rattle.pattern_unify.specs.declared.offence.Subterm.{Subterm}
 use Rattle.pattern_unify.specs.declared.offence.Verdict.TheVariants.{Fine}
-use Rattle.pattern_unify.specs.Searching.{searching, subterm, first_verdict, AllSearchable, search_size}
+use Rattle.pattern_unify.specs.inside.Searching.{searching, subterm, first_verdict, AllSearchable, search_size}
 use Rattle.pattern_unify.proofs.SearchLemmas.{first-search, next-valid, next-deep, turn-searchable, turn-fine, turn-found, turn-less}
 use Rattle.pattern_unify.proofs.offence.search.Goals as goal
 

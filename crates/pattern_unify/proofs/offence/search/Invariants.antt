@@ -2,7 +2,7 @@ use Rattle.std.proofs.Common.{◌≡◌, false, [], ◌∷◌, ◌++◌, reverse
 use Rattle.level_terms.specs.Growth.{Grows}
 use Rattle.level_terms.specs.Reading.{read}
 use Rattle.beta_fragment.specs.Names.{names}
-use Rattle.pattern_unify.specs.Searching.{searching, verdict_on, first_verdict, AllSearchable, search_size}
+use Rattle.pattern_unify.specs.inside.Searching.{searching, verdict_on, first_verdict, AllSearchable, search_size}
 use Rattle.pattern_unify.proofs.offence.search.Given as goal
 
 abbrev pub invariant-loop-work : goal.invariant-loop-work

@@ -4,7 +4,7 @@ use Rattle.level_terms.specs.Sound.{AllOlder}
 use Rattle.level_terms.proofs.MakeLemmas.{older-last}
 use Rattle.beta_fragment.proofs.SplitLemmas.{empty-list}
 use Rattle.beta_fragment.proofs.WorkLemmas.{total}
-use Rattle.pattern_unify.specs.Reaching.{AllUnreached}
+use Rattle.pattern_unify.specs.inside.Reaching.{AllUnreached}
 use Rattle.pattern_unify.proofs.ReachedWork.{turn-unreached, turn-there, turn-smaller}
 use Rattle.pattern_unify.proofs.reaching.is_reached.Goals as goal
 

@@ -2,7 +2,7 @@ use Rattle.std.proofs.Common.{[], ◌∷◌, ◌++◌, length}
 use Rattle.level_terms.specs.Reached.{IsUnreached}
 use Rattle.level_terms.specs.Sound.{AllOlder}
 use Rattle.beta_fragment.proofs.WorkLemmas.{total}
-use Rattle.pattern_unify.specs.Reaching.{AllUnreached}
+use Rattle.pattern_unify.specs.inside.Reaching.{AllUnreached}
 use Rattle.pattern_unify.proofs.reaching.is_reached.Given as goal
 
 abbrev pub invariant-loop-v : goal.invariant-loop-v

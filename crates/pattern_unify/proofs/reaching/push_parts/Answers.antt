@@ -1,6 +1,6 @@
 use Rattle.std.proofs.Common.{refl, sym, ◌∙◌}
 use Rattle.std.proofs.lemmas.Result.{on_ok_weaker}
-use Rattle.pattern_unify.specs.Reaching.{bare, with_next}
+use Rattle.pattern_unify.specs.inside.Reaching.{bare, with_next}
 use Rattle.pattern_unify.proofs.reaching.push_parts.Goals as goal
 
 pub returns-then-is_ground_normal : goal.returns-then-is_ground_normal

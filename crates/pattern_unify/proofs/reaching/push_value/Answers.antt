@@ -1,6 +1,6 @@
 use Rattle.std.proofs.Common.{◌++◌, option_map, sym, ap, ◌∙◌, append-nil}
 use Rattle.level_terms.specs.declared.node.TermId.{TermId}
-use Rattle.pattern_unify.specs.Reaching.{value_node}
+use Rattle.pattern_unify.specs.inside.Reaching.{value_node}
 use Rattle.pattern_unify.proofs.reaching.push_value.Goals as goal
 
 pub returns-in_ok-push-in-Some : goal.returns-in_ok-push-in-Some

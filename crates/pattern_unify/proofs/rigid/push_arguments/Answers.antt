@@ -1,6 +1,6 @@
 use Rattle.std.proofs.Common.{◌≡◌, ◌<◌, ◌-◌, ◌++◌, ◌∷◌, suc, List, reverse, drop, length, sym, ap, ◌∙◌, arith, append-nil, get_or}
 use Rattle.pattern_unify.specs.declared.equation.Equation.{Equation}
-use Rattle.pattern_unify.specs.Equations.{arguments_of}
+use Rattle.pattern_unify.specs.inside.Equations.{arguments_of}
 use Rattle.pattern_unify.proofs.EquationLemmas.{arguments-all, arguments-one, arguments-step}
 use Rattle.pattern_unify.proofs.rigid.push_arguments.Goals as goal
 

@@ -1,5 +1,5 @@
 use Rattle.std.proofs.Common.{◌≡◌, ◌≤◌, ◌++◌, length, reverse, drop}
-use Rattle.pattern_unify.specs.Equations.{arguments_of}
+use Rattle.pattern_unify.specs.inside.Equations.{arguments_of}
 use Rattle.pattern_unify.proofs.rigid.push_arguments.Given as goal
 
 abbrev pub invariant-loop-i : goal.invariant-loop-i

@@ -1,5 +1,5 @@
 use Rattle.std.proofs.Common.{sym, ◌∙◌}
-use Rattle.pattern_unify.specs.Sides.{head_at}
+use Rattle.pattern_unify.specs.inside.Sides.{head_at}
 use Rattle.pattern_unify.proofs.ArgumentTurns.{arguments-turn}
 use Rattle.pattern_unify.proofs.rigid.two_rigid.Goals as goal
 

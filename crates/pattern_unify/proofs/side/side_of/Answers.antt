@@ -1,7 +1,7 @@
 use Rattle.std.proofs.Common.{sym, ap, ◌∙◌, subst}
 use Rattle.beta_fragment.specs.Names.{names}
 use Rattle.level_terms.specs.Reading.{read}
-use Rattle.pattern_unify.specs.Sides.{shape_at, IsSideAt}
+use Rattle.pattern_unify.specs.inside.Sides.{shape_at, IsSideAt}
 use Rattle.pattern_unify.specs.declared.side.Side.{Side}
 use Rattle.pattern_unify.proofs.SideLemmas.{form-shape, form-side}
 use Rattle.pattern_unify.proofs.side.side_of.Goals as goal

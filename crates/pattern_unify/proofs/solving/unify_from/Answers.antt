@@ -4,9 +4,9 @@ use Rattle.ref_terms.specs.unification.Rules.{step}
 use Rattle.ref_terms.specs.unification.Unification.{steps_of}
 use Rattle.beta_fragment.proofs.SplitLemmas.{empty-list}
 use Rattle.pattern_unify.specs.Answers.{problem_of}
-use Rattle.pattern_unify.specs.Equations.{problem_at}
-use Rattle.pattern_unify.specs.Turns.{IsTurn}
-use Rattle.pattern_unify.specs.Underway.{IsUnderway}
+use Rattle.pattern_unify.specs.inside.Equations.{problem_at}
+use Rattle.pattern_unify.specs.inside.Turns.{IsTurn}
+use Rattle.pattern_unify.specs.inside.Underway.{IsUnderway}
 use Rattle.pattern_unify.specs.declared.equation.Equation.{Equation}
 use Rattle.pattern_unify.proofs.EquationLemmas.{taken-valid, left-valid}
 use Rattle.pattern_unify.proofs.KeptLemmas.{frozen-trans}

@@ -3,8 +3,8 @@ use Rattle.level_terms.specs.Growth.{Grows}
 use Rattle.ref_terms.specs.unification.Unification.{steps_of}
 use Rattle.pattern_unify.specs.Answers.{problem_of}
 use Rattle.pattern_unify.specs.Bound.{LeavesFrozen}
-use Rattle.pattern_unify.specs.Equations.{problem_at}
-use Rattle.pattern_unify.specs.Underway.{IsUnderway}
+use Rattle.pattern_unify.specs.inside.Equations.{problem_at}
+use Rattle.pattern_unify.specs.inside.Underway.{IsUnderway}
 use Rattle.pattern_unify.proofs.solving.unify_from.Given as goal
 
 abbrev pub invariant-loop-work : goal.invariant-loop-work

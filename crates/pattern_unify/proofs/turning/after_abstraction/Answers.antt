@@ -1,8 +1,8 @@
 use Rattle.std.proofs.Common.{[]}
 use Rattle.level_terms.proofs.GrowthLemmas.{grows-refl}
 use Rattle.ref_terms.specs.unification.Shape.{Abstraction}
-use Rattle.pattern_unify.specs.Sides.{shape_at}
-use Rattle.pattern_unify.specs.Turns.{rule_at}
+use Rattle.pattern_unify.specs.inside.Sides.{shape_at}
+use Rattle.pattern_unify.specs.inside.Turns.{rule_at}
 use Rattle.pattern_unify.proofs.TurnLemmas.{seen-each, abstraction-opens}
 use Rattle.pattern_unify.proofs.turning.after_abstraction.Goals as goal
 

@@ -6,9 +6,9 @@ use Rattle.ref_terms.specs.unification.Pattern.{of_name}
 use Rattle.ref_terms.specs.unification.Rules.{bind_to}
 use Rattle.ref_terms.specs.unification.Shape.{shape}
 use Rattle.beta_fragment.specs.Names.{names}
-use Rattle.pattern_unify.specs.Equations.{equation_at, equations_at, problem_at}
-use Rattle.pattern_unify.specs.Sides.{shape_at}
-use Rattle.pattern_unify.specs.Turns.{rule_at}
+use Rattle.pattern_unify.specs.inside.Equations.{equation_at, equations_at, problem_at}
+use Rattle.pattern_unify.specs.inside.Sides.{shape_at}
+use Rattle.pattern_unify.specs.inside.Turns.{rule_at}
 use Rattle.pattern_unify.proofs.EquationLemmas.{equation_valid-kept, equations_valid-kept}
 use Rattle.pattern_unify.proofs.KeptLemmas.{frozen-grown, frozen-after, grows-after}
 use Rattle.pattern_unify.proofs.OwnLemmas.{own-left}

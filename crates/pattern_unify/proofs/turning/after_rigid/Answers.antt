@@ -3,8 +3,8 @@ use Rattle.level_terms.proofs.GrowthLemmas.{grows-refl}
 use Rattle.ref_terms.specs.unification.Shape.{Abstraction, Rigid}
 use Rattle.beta_fragment.specs.HeadForm.{all_read}
 use Rattle.pattern_unify.specs.declared.side.Side.{Side}
-use Rattle.pattern_unify.specs.Sides.{head_at, shape_at}
-use Rattle.pattern_unify.specs.Turns.{rule_at}
+use Rattle.pattern_unify.specs.inside.Sides.{head_at, shape_at}
+use Rattle.pattern_unify.specs.inside.Turns.{rule_at}
 use Rattle.pattern_unify.proofs.KeptLemmas.{frozen-grown}
 use Rattle.pattern_unify.proofs.TurnLemmas.{seen-at}
 use Rattle.pattern_unify.proofs.turning.after_rigid.Goals as goal

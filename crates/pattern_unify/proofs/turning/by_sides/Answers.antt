@@ -2,8 +2,8 @@ use Rattle.std.proofs.Common.{ap}
 use Rattle.level_terms.proofs.GrowthLemmas.{grows-refl}
 use Rattle.ref_terms.specs.unification.Shape.{Abstraction}
 use Rattle.pattern_unify.specs.declared.side.Side.{Side}
-use Rattle.pattern_unify.specs.Sides.{shape_at}
-use Rattle.pattern_unify.specs.Turns.{rule_at}
+use Rattle.pattern_unify.specs.inside.Sides.{shape_at}
+use Rattle.pattern_unify.specs.inside.Turns.{rule_at}
 use Rattle.pattern_unify.proofs.KeptLemmas.{frozen-grown}
 use Rattle.pattern_unify.proofs.TurnLemmas.{seen-at}
 use Rattle.pattern_unify.proofs.turning.by_sides.Goals as goal

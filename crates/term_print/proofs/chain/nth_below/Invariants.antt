@@ -1,5 +1,5 @@
 use Rattle.std.proofs.Common.{◌<◌, length}
-use Rattle.term_print.specs.Chains.{IsBelow}
+use Rattle.term_print.specs.inside.Chains.{IsBelow}
 use Rattle.term_print.proofs.chain.nth_below.Given as goal
 
 abbrev pub invariant-loop-step : goal.invariant-loop-step

@@ -1,6 +1,6 @@
 use Rattle.std.proofs.Common.{◌∷◌, [], reverse, arith}
 use Rattle.level_terms.proofs.GrowthLemmas.{grows-refl, grows-trans}
-use Rattle.term_print.specs.Pieces.{work_parts, page}
+use Rattle.term_print.specs.inside.Pieces.{work_parts, page}
 use Rattle.term_print.specs.declared.piece.Piece.TheVariants.{Top}
 use Rattle.term_print.proofs.PrintLemmas.{started, goes_on, printed-line, seen-line, stopped-line, none-left}
 use Rattle.term_print.proofs.WrittenLemmas.{on-err}

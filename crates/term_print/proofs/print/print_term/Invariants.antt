@@ -1,5 +1,5 @@
 use Rattle.std.proofs.Common.{◌∷◌, [], reverse}
-use Rattle.term_print.specs.Pieces.{work_parts, work_size, page}
+use Rattle.term_print.specs.inside.Pieces.{work_parts, work_size, page}
 use Rattle.term_print.specs.declared.piece.Piece.TheVariants.{Top}
 use Rattle.term_print.proofs.PrintLemmas.{Printing}
 use Rattle.term_print.proofs.print.print_term.Given as goal

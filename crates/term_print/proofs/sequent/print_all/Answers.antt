@@ -4,7 +4,7 @@ use Rattle.level_terms.specs.Reading.{read}
 use Rattle.level_terms.proofs.GrowthLemmas.{grows-refl, grows-trans}
 use Rattle.beta_fragment.specs.Names.{names}
 use Rattle.beta_fragment.specs.HeadForm.{all_read, AllValidAt}
-use Rattle.term_print.specs.Pieces.{page}
+use Rattle.term_print.specs.inside.Pieces.{page}
 use Rattle.term_print.proofs.SequentLemmas.{first-printed, first-stopped, first-stops, take-tail, valid-drop, all-valid-grown, all-read-grown}
 use Rattle.term_print.proofs.WrittenLemmas.{on-ok, on-err, on-err_from}
 use Rattle.term_print.proofs.sequent.print_all.Goals as goal

@@ -8,7 +8,7 @@ use Rattle.ref_terms.specs.texts.Answer.{term_line}
 use Rattle.beta_fragment.specs.Names.{names}
 use Rattle.beta_fragment.specs.HeadForm.{all_read}
 use Rattle.level_terms.proofs.ReadLemmas.{valid-below}
-use Rattle.term_print.specs.Pieces.{page}
+use Rattle.term_print.specs.inside.Pieces.{page}
 use Rattle.term_print.specs.Sequents.{scope_bytes, all_lines}
 use Rattle.term_print.proofs.SequentLemmas.{scope-stops, goal-printed, goal-stops, turn-stops, one-read-grown}
 use Rattle.term_print.proofs.WrittenLemmas.{stops-bytes, on-err, on-ok_two, on-err_from}

@@ -5,7 +5,7 @@ use Rattle.level_terms.proofs.ValidLemmas.{growth_keeps_valid}
 use Rattle.beta_fragment.specs.Names.{names}
 use Rattle.beta_fragment.specs.HeadForm.{all_read}
 use Rattle.level_terms.proofs.ReadLemmas.{valid-below}
-use Rattle.term_print.specs.Pieces.{page}
+use Rattle.term_print.specs.inside.Pieces.{page}
 use Rattle.term_print.specs.Sequents.{more_lines}
 use Rattle.term_print.proofs.SequentLemmas.{valid-at, line-next, line-stops, one-read-grown}
 use Rattle.term_print.proofs.WrittenLemmas.{prints-none, on-err}

@@ -1,7 +1,7 @@
 use Rattle.std.proofs.Common.{[], drop}
 use Rattle.level_terms.specs.Growth.{Grows}
 use Rattle.beta_fragment.specs.HeadForm.{all_read}
-use Rattle.term_print.specs.Pieces.{page}
+use Rattle.term_print.specs.inside.Pieces.{page}
 use Rattle.term_print.specs.Sequents.{more_lines}
 use Rattle.term_print.specs.Written.{Prints}
 use Rattle.term_print.proofs.sequent.print_more.Given as goal

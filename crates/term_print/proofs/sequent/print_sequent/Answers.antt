@@ -2,7 +2,7 @@ use Rattle.std.proofs.Common.{[], ◌++◌, List, ℕ, sym, ap, ◌∙◌, subst
 use Rattle.level_terms.specs.Reading.{read}
 use Rattle.beta_fragment.specs.Names.{names}
 use Rattle.beta_fragment.specs.HeadForm.{all_read}
-use Rattle.term_print.specs.Pieces.{page}
+use Rattle.term_print.specs.inside.Pieces.{page}
 use Rattle.term_print.specs.Written.{GainsFront}
 use Rattle.term_print.specs.Sequents.{sequent_line}
 use Rattle.term_print.proofs.PrintLemmas.{printed-text, printed-seen}

@@ -1,5 +1,5 @@
 use Rattle.std.proofs.Common.{◌≡◌, ◌<◌, ◌-◌, ◌++◌, ◌∷◌, suc, reverse, drop, length, sym, ap, ◌∙◌, arith, append-nil, get_or}
-use Rattle.term_print.specs.Pieces.{argument_pieces}
+use Rattle.term_print.specs.inside.Pieces.{argument_pieces}
 use Rattle.term_print.specs.declared.piece.Piece.TheVariants.{Argument}
 use Rattle.term_print.proofs.LookLemmas.{drop_all, drop_one, push_step}
 use Rattle.term_print.proofs.step.push_arguments.Goals as goal

@@ -1,5 +1,5 @@
 use Rattle.std.proofs.Common.{◌≡◌, ◌≤◌, ◌++◌, length, reverse, drop}
-use Rattle.term_print.specs.Pieces.{argument_pieces}
+use Rattle.term_print.specs.inside.Pieces.{argument_pieces}
 use Rattle.term_print.proofs.step.push_arguments.Given as goal
 
 abbrev pub invariant-loop-i : goal.invariant-loop-i

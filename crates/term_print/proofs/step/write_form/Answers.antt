@@ -4,7 +4,7 @@ use Rattle.level_terms.proofs.GrowthLemmas.{grows-refl}
 use Rattle.ref_terms.specs.texts.Text.{top}
 use Rattle.beta_fragment.specs.declared.answer.Whnf.{Whnf}
 use Rattle.beta_fragment.specs.declared.answer.Whnf.TheVariants.{Rigid, Redex}
-use Rattle.term_print.specs.Pieces.{StopsTerm, seen_term, page}
+use Rattle.term_print.specs.inside.Pieces.{StopsTerm, seen_term, page}
 use Rattle.term_print.proofs.WrittenLemmas.{on-err_from}
 use Rattle.term_print.proofs.step.write_form.Goals as goal
 

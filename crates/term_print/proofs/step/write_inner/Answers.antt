@@ -3,7 +3,7 @@ use Rattle.level_terms.specs.Reading.{read}
 use Rattle.level_terms.proofs.GrowthLemmas.{grows-trans}
 use Rattle.ref_terms.specs.texts.Text.{inner}
 use Rattle.beta_fragment.specs.Names.{names}
-use Rattle.term_print.specs.Pieces.{seen_term}
+use Rattle.term_print.specs.inside.Pieces.{seen_term}
 use Rattle.term_print.proofs.LookLemmas.{seen-is, seen-form}
 use Rattle.term_print.proofs.StepLemmas.{pieces-grown, looked-leaves, looked-stops}
 use Rattle.term_print.proofs.WrittenLemmas.{on-ok, on-err_from}

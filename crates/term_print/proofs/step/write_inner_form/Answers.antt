@@ -1,6 +1,6 @@
 use Rattle.std.proofs.Common.{[], reverse, ◌∙◌}
 use Rattle.level_terms.proofs.GrowthLemmas.{grows-refl}
-use Rattle.term_print.specs.Pieces.{seen_term}
+use Rattle.term_print.specs.inside.Pieces.{seen_term}
 use Rattle.term_print.proofs.StepLemmas.{bare-leaves, bare-stops, bracket-printed, bracket-stopped}
 use Rattle.term_print.proofs.WrittenLemmas.{on-ok, on-err_from}
 use Rattle.term_print.proofs.step.write_inner_form.Goals as goal

@@ -1,5 +1,5 @@
 use Rattle.std.proofs.Common.{[], ◌∷◌, reverse, sym, subst}
-use Rattle.term_print.specs.Pieces.{page, work_parts}
+use Rattle.term_print.specs.inside.Pieces.{page, work_parts}
 use Rattle.term_print.specs.Written.{Stops}
 use Rattle.term_print.specs.declared.piece.Piece.{Piece}
 use Rattle.level_terms.proofs.GrowthLemmas.{grows-refl}

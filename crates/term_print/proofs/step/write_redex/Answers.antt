@@ -2,7 +2,7 @@ use Rattle.std.proofs.Common.{[], List, reverse, sym, ◌∙◌, subst}
 use Rattle.level_terms.specs.Reading.{read}
 use Rattle.level_terms.proofs.GrowthLemmas.{grows-refl}
 use Rattle.beta_fragment.specs.Names.{names}
-use Rattle.term_print.specs.Pieces.{ArePieces}
+use Rattle.term_print.specs.inside.Pieces.{ArePieces}
 use Rattle.term_print.specs.declared.piece.Piece.{Piece}
 use Rattle.term_print.proofs.StepLemmas.{redex-printed, redex-stops, args-pieces, pushed-redex}
 use Rattle.term_print.proofs.WrittenLemmas.{on-ok, on-err_from}

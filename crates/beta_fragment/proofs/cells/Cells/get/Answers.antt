@@ -1,7 +1,7 @@
 use Rattle.std.proofs.Common.{◌≡◌, ◌<◌, List, length, reverse, sym, ap, ◌∙◌, subst, arith}
 use Rattle.std.proofs.lemmas.List.{length-reverse}
 use Rattle.beta_fragment.specs.declared.cells.Cell.{Cell}
-use Rattle.beta_fragment.specs.Cells.{terms_of, term_at, cell_term, HasParts}
+use Rattle.beta_fragment.specs.inside.Cells.{terms_of, term_at, cell_term, HasParts}
 use Rattle.beta_fragment.proofs.KeptLemmas.{terms-length, parts-at, cell-at}
 use Rattle.beta_fragment.proofs.cells.Cells.get.Goals as goal
 

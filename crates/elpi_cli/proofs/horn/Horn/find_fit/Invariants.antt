@@ -1,5 +1,5 @@
 use Rattle.std.proofs.Common.{◌≡◌, drop}
-use Rattle.elpi_cli.specs.HornSearch.{first_fit}
+use Rattle.elpi_cli.specs.inside.HornSearch.{first_fit}
 use Rattle.elpi_cli.proofs.horn.Horn.find_fit.Given as goal
 
 abbrev pub invariant-loop-at : goal.invariant-loop-at

@@ -1,5 +1,5 @@
 use Rattle.std.proofs.Common.{◌≡◌, length}
-use Rattle.elpi_cli.specs.HornSearch.{retry}
+use Rattle.elpi_cli.specs.inside.HornSearch.{retry}
 use Rattle.elpi_cli.specs.Reading.{choices_of}
 use Rattle.elpi_cli.proofs.machine.Machine.retry.Given as goal
 

@@ -2,7 +2,7 @@ use Rattle.std.proofs.Common.{◌≡◌, ◌∙◌, ℕ, ◌-◌, ◌<◌, List,
 use Rattle.std.specs.Prelude.{position, reverse}
 use Rattle.std.specs.Option.{option_map}
 use Rattle.std.proofs.lemmas.List.{length-reverse}
-use Rattle.lp_resolve.specs.Scopes.{words_of, level_of}
+use Rattle.lp_resolve.specs.inside.Scopes.{words_of, level_of}
 use Rattle.lp_resolve.proofs.Levels.{level-within, level-position}
 use Rattle.lp_resolve.proofs.scope.Scope.index_of.Goals as goal
 

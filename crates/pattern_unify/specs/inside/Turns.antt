@@ -11,7 +11,7 @@ use Rattle.pattern_unify.specs.declared.equation.Equation.{Equation}
 use Rattle.pattern_unify.specs.declared.equation.Turn.{Turn}
 use Rattle.pattern_unify.specs.declared.equation.Turn.TheVariants as turn
 use Rattle.ref_terms.specs.search.Branch.{bound}
-use Rattle.pattern_unify.specs.Equations.{equation_at, equations_at, problem_at, AllValidEquations}
+use Rattle.pattern_unify.specs.inside.Equations.{equation_at, equations_at, problem_at, AllValidEquations}
 
 -- the rules go on, whatever the bindings so far: they make some bindings, which the heap has, and the work that is left is theirs
 pub record GoesOn (old new : Graph) (step : List Binding → Step) (work : List Equation) : Type 0 where

@@ -11,7 +11,7 @@ use Rattle.elpi_cli.specs.declared.horn.Atom.{Atom}
 use Rattle.elpi_cli.specs.declared.horn.Span.{Span}
 use Rattle.elpi_cli.specs.declared.horn.HornClause.{HornClause}
 use Rattle.elpi_cli.specs.declared.horn.Horn.{Horn}
-use Rattle.elpi_cli.specs.HornProgram.{atom_term, span_term, clause_term, is_free, IsProgram}
+use Rattle.elpi_cli.specs.inside.HornProgram.{atom_term, span_term, clause_term, is_free, IsProgram}
 use Rattle.elpi_cli.specs.Forms.{is_word, is_atom, is_horn_goal, is_horn_clause, is_horn_query}
 
 -- the tree is headed by this constant, which isn't reserved

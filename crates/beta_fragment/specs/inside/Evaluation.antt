@@ -10,7 +10,7 @@ use Rattle.ref_terms.specs.terms.Term as term
 use Rattle.ref_terms.specs.terms.Term.{Term, At}
 use Rattle.ref_terms.specs.terms.Apply.{apply}
 use Rattle.ref_terms.specs.terms.Eta.{lam}
-use Rattle.beta_fragment.specs.Cells.{term_at}
+use Rattle.beta_fragment.specs.inside.Cells.{term_at}
 use Rattle.beta_fragment.specs.Quoted.{AllHeads, IsOpenHead}
 use Rattle.beta_fragment.specs.declared.evaluating.Entry.{Entry}
 use Rattle.beta_fragment.specs.declared.evaluating.Entry.TheVariants.{Named, Placed}

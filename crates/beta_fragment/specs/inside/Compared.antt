@@ -7,7 +7,7 @@ use Rattle.beta_fragment.specs.declared.cells.Cell.TheVariants.{Lam, App}
 use Rattle.beta_fragment.specs.declared.comparing.Sides.{Sides}
 use Rattle.beta_fragment.specs.declared.comparing.Likeness.{Likeness}
 use Rattle.beta_fragment.specs.declared.comparing.Likeness.TheVariants.{Equal, Differ, Bodies, Parts}
-use Rattle.beta_fragment.specs.Cells.{term_at, cell_term}
+use Rattle.beta_fragment.specs.inside.Cells.{term_at, cell_term}
 
 -- how large a term is
 abbrev pub term_size : Term → ℕ

@@ -9,7 +9,7 @@ use Rattle.elpi_cli.specs.declared.top.Job.{Job}
 use Rattle.elpi_cli.specs.declared.top.Prepared.{Prepared}
 use Rattle.elpi_cli.specs.declared.top.Prepared.TheVariants.{Search, Line}
 use Rattle.elpi_cli.specs.Output.{Output, line_only}
-use Rattle.elpi_cli.specs.HornOutput.{horn_events, horn_written}
+use Rattle.elpi_cli.specs.inside.HornOutput.{horn_events, horn_written}
 use Rattle.elpi_cli.specs.Reading.{reading}
 use Rattle.elpi_cli.specs.Top.{output, read_line, IsReadFault}
 

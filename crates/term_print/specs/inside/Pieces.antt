@@ -14,8 +14,8 @@ use Rattle.beta_fragment.specs.Names.{names}
 use Rattle.beta_fragment.specs.HeadForm.{rigid_head, all_read}
 use Rattle.beta_fragment.specs.declared.answer.Whnf.{Whnf}
 use Rattle.beta_fragment.specs.declared.answer.Whnf.TheVariants.{Lam, Rigid, Flex, Redex}
-use Rattle.term_print.specs.Chains.{AreKept}
-use Rattle.term_print.specs.Opened.{parts, opened_parts}
+use Rattle.term_print.specs.inside.Chains.{AreKept}
+use Rattle.term_print.specs.inside.Opened.{parts, opened_parts}
 use Rattle.term_print.specs.Written.{Page, Prints, Stops}
 use Rattle.term_print.specs.declared.piece.Piece.{Piece}
 use Rattle.term_print.specs.declared.piece.Piece.TheVariants.{Close, Infix, Top, Inner, Argument}

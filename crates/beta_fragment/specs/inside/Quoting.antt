@@ -12,7 +12,7 @@ use Rattle.beta_fragment.specs.declared.quoting.Task.{Task}
 use Rattle.beta_fragment.specs.declared.quoting.Task.TheVariants.{Visit, Lam, App}
 use Rattle.beta_fragment.specs.Names.{names}
 use Rattle.level_terms.specs.Values.{Value, value_of}
-use Rattle.beta_fragment.specs.Cells.{term_at}
+use Rattle.beta_fragment.specs.inside.Cells.{term_at}
 use Rattle.beta_fragment.specs.Quoted.{AllIndicesBelow, AllNamesBelow, AllHeads, IsOpenHead, put_head, names_with}
 
 -- what the levels stand for, under so many abstractions from a depth on

@@ -12,7 +12,7 @@ use Rattle.beta_fragment.specs.declared.taking.Instead.{Instead}
 use Rattle.beta_fragment.specs.declared.taking.Instead.TheVariants.{Index, Other, Nothing}
 use Rattle.beta_fragment.specs.declared.taking.Task.{Task}
 use Rattle.beta_fragment.specs.declared.taking.Task.TheVariants.{Visit, Lam, App}
-use Rattle.beta_fragment.specs.Cells.{term_at, Gains}
+use Rattle.beta_fragment.specs.inside.Cells.{term_at, Gains}
 
 -- terms for indices, where there are any, under one more abstraction
 abbrev pub under_some : (ℕ → Option Term) → ℕ → Option Term

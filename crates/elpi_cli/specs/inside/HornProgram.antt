@@ -15,7 +15,7 @@ use Rattle.elpi_cli.specs.declared.horn.HornClause.{HornClause}
 use Rattle.elpi_cli.specs.declared.horn.Horn.{Horn}
 use Rattle.elpi_cli.specs.declared.machine.Event.{Event}
 use Rattle.elpi_cli.specs.declared.machine.Event.TheVariants.{Moved, Answered, Failure, Faulted}
-use Rattle.elpi_cli.specs.HornSearch.{atoms_of, places_for, Choice, HornState, running, ended, over, HornMove}
+use Rattle.elpi_cli.specs.inside.HornSearch.{atoms_of, places_for, Choice, HornState, running, ended, over, HornMove}
 
 -- a term applied to constants
 abbrev pub applied : Term → List ℕ → Term

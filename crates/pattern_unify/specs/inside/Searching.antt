@@ -17,7 +17,7 @@ use Rattle.beta_fragment.specs.Names.{names}
 use Rattle.pattern_unify.specs.declared.offence.Verdict.{Verdict}
 use Rattle.pattern_unify.specs.declared.offence.Verdict.TheVariants.{Fine, Redex, Scope, Itself, Foreign, Dropped}
 use Rattle.pattern_unify.specs.declared.offence.Subterm.{Subterm}
-use Rattle.pattern_unify.specs.Verdicts.{verdict_of, DropsAssignable}
+use Rattle.pattern_unify.specs.inside.Verdicts.{verdict_of, DropsAssignable}
 
 -- what is searched for: the variable that would get the term, its names, and the level from which on the term binds its own
 pub record Search : Type 0 where

@@ -4,7 +4,7 @@ use Rattle.ref_terms.specs.declared.tree.Tree.{Tree}
 use Rattle.lp_resolve.specs.declared.program.Program.{Program}
 use Rattle.lp_resolve.specs.declared.program.ClauseTree.{ClauseTree}
 use Rattle.lp_resolve.specs.declared.program.RuleTree.{RuleTree}
-use Rattle.lp_resolve.specs.Named.{IsNamed}
+use Rattle.lp_resolve.specs.inside.Named.{IsNamed}
 use Rattle.lp_resolve.specs.StaticRules.{goals_of}
 use Rattle.lp_resolve.specs.Trees.{as_term}
 

@@ -5,7 +5,7 @@ use Rattle.ref_terms.specs.declared.sym.Sym.{Sym}
 use Rattle.ref_terms.specs.texts.Text.{symbol, escaped}
 use Rattle.beta_fragment.specs.declared.answer.RigidHead.{RigidHead}
 use Rattle.beta_fragment.specs.declared.answer.RigidHead.TheVariants.{Con, Int, Str, Level}
-use Rattle.term_print.specs.Opened.{name_bytes}
+use Rattle.term_print.specs.inside.Opened.{name_bytes}
 
 -- a string in quotes
 abbrev pub quoted_bytes : List ℕ → List ℕ

@@ -7,7 +7,7 @@ use Rattle.ref_terms.specs.unification.Problem.{Binding, Problem}
 use Rattle.ref_terms.specs.unification.Unification.{unify}
 use Rattle.pattern_unify.specs.declared.equation.Equation.{Equation}
 use Rattle.ref_terms.specs.search.Branch.{bound}
-use Rattle.pattern_unify.specs.Equations.{problem_at, AllValidEquations}
+use Rattle.pattern_unify.specs.inside.Equations.{problem_at, AllValidEquations}
 
 -- the work that is left has the problem's answer, with the bindings made so far, which the heap has
 pub record IsUnderway (mark : ℕ) (p : Problem) (old new : Graph) (work : List Equation) : Type 0 where

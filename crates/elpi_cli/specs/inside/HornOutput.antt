@@ -6,7 +6,7 @@ use Rattle.elpi_cli.specs.declared.horn.Horn.{Horn}
 use Rattle.elpi_cli.specs.declared.machine.Event.{Event}
 use Rattle.elpi_cli.specs.declared.machine.Event.TheVariants.{Moved, Answered, Failure, Faulted}
 use Rattle.elpi_cli.specs.declared.status.Status.TheVariants.{Done, NoAnswer, Fault, Budget}
-use Rattle.elpi_cli.specs.HornSearch.{HornState, next}
+use Rattle.elpi_cli.specs.inside.HornSearch.{HornState, next}
 use Rattle.elpi_cli.specs.Output.{Output, line, line_only, preceded}
 
 -- nothing follows failure and faults

@@ -1,0 +1,12 @@
+pub mod Cells
+pub mod Compared
+pub mod Evaluation
+pub mod LevelList
+pub mod Pairs
+pub mod Quoting
+pub mod Settled
+pub mod Spine
+pub mod Standing
+pub mod Taking
+pub mod Turn
+pub mod Work

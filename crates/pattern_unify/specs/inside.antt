@@ -1,0 +1,12 @@
+pub mod Binding
+pub mod Closed
+pub mod Equations
+pub mod Keeping
+pub mod Own
+pub mod Reaching
+pub mod Searching
+pub mod Sides
+pub mod SpineNames
+pub mod Turns
+pub mod Underway
+pub mod Verdicts

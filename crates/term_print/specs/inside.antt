@@ -1,0 +1,4 @@
+pub mod Chains
+pub mod Heads
+pub mod Opened
+pub mod Pieces
