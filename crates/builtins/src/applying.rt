@@ -67,12 +67,7 @@ fn with_argument(
 }
 
 /// A term that is no application, with its only argument.
-fn with_first(
-    heap: &mut Heap,
-    f: TermId,
-    a: TermId,
-    depth: usize,
-) -> Result<TermId, AllocError>
+fn with_first(heap: &mut Heap, f: TermId, a: TermId, depth: usize) -> Result<TermId, AllocError>
     requires function { IsValid heap.old f.index depth }
     requires argument { IsValid heap.old a.index depth }
     requires no_application { IsHead (node_at heap.old.nodes f.index) }

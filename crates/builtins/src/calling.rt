@@ -207,5 +207,4 @@ fn beta(
 /// The reference's move of a built-in's goal is that of what the built-in comes to.
 pub fn law_outcomes_move()
     ensures { OutcomesMove }
-{
-}
+{}

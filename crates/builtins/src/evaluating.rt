@@ -71,12 +71,7 @@ pub(crate) fn evaluate(
 }
 
 /// What is seen of an expression.
-fn look(
-    alloc: Global,
-    heap: &mut Heap,
-    e: TermId,
-    depth: usize,
-) -> Result<Expression, AllocError>
+fn look(alloc: Global, heap: &mut Heap, e: TermId, depth: usize) -> Result<Expression, AllocError>
     requires { IsValid heap.old e.index depth }
     ensures seen { IfOk result (IsExpression heap.new depth (read heap.old e.index names)) }
     ensures variables { heap.new.depths ≡ heap.old.depths }

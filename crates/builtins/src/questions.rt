@@ -69,12 +69,7 @@ pub(crate) fn is_name(
 }
 
 /// The integer that the term is. Takes no memory where it is one.
-fn integer(
-    alloc: Global,
-    heap: &mut Heap,
-    t: TermId,
-    depth: usize,
-) -> Result<i64, UnifyStop>
+fn integer(alloc: Global, heap: &mut Heap, t: TermId, depth: usize) -> Result<i64, UnifyStop>
     requires { IsValid heap.old t.index depth }
     ensures value { IfOk result (λ z. operand (read heap.old t.index names) ≡ Good z) }
     ensures stops { IfErr result (StopsBy (operand (read heap.old t.index names))) }
