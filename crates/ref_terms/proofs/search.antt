@@ -4,6 +4,11 @@ pub mod AnswerVars
 pub mod ArithmeticVars
 pub mod AssumptionVars
 pub mod BarrierVars
+pub mod BelowClauses
+pub mod BelowMoves
+pub mod BelowRules
+pub mod BelowTerms
+pub mod BelowUnify
 pub mod BranchMoveVars
 pub mod BranchVars
 pub mod CandidateVars

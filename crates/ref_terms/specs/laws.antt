@@ -1,3 +1,4 @@
+pub mod BelowLaws
 pub mod ReadyLaws
 pub mod SearchLaws
 pub mod TermLaws

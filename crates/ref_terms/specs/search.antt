@@ -1,6 +1,7 @@
 pub mod Alike
 pub mod Arithmetic
 pub mod Assumption
+pub mod Below
 pub mod Branch
 pub mod BranchMove
 pub mod Candidates

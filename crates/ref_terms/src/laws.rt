@@ -5,6 +5,7 @@ ghost use Rattle.ref_terms.specs.laws.ReadyLaws.{NameIsReady, BoundIndexIsReady,
 ghost use Rattle.ref_terms.specs.laws.TextLaws.{TextApplicationBuilds, TextAbstractionBuilds, RebuiltTextApplies};
 ghost use Rattle.ref_terms.specs.laws.UnifyLaws.{HasOneAnswer, UnificationEnds, UnifyIsReached, UnifyIsTheOnlyAnswer, StepKeepsAnswer, LastStepAnswers, StepsFall, LastStepIsOne, UnifiesOneByOne};
 ghost use Rattle.ref_terms.specs.laws.SearchLaws.{RenamedProblemHasRenamedAnswer, RenamingOfUsedVariables, RenamedStatesMoveRenamed, AlikeStatesMoveAlike, AlikeEventsShowTheSame, AlikeStatesShowTheSame, StrippedStateMovesStripped, AlikeStatesStripAlike, AlikeOnceStrippedMoveAlike, AlikeOnceStrippedShowTheSame, FirstStateIsCounted, CountedStateMovesCounted};
+ghost use Rattle.ref_terms.specs.laws.BelowLaws.{FirstStateIsBelow, MovesStayBelow};
 ghost use Rattle.ref_terms.specs.laws.TouchLaws.{FirstTouchedIsFirst, TouchedAfterBindings, TouchedAfterRenaming, TouchedAfterAdding, TouchedAfterLeaving, TouchedAfterFiring, TouchedAfterDropping, TouchedAfterRule, TouchedAfterWaking, TouchedRenamed, RefusedAfterFiring, FiredIsRefused, RestAfterFiring, WatchedSleepsOn, PairsShare};
 ghost use Rattle.ref_terms.specs.unification.MostGeneral.{MostGeneral};
 ghost use Rattle.ref_terms.specs.unification.RealClash.{RealClash, RealClashes};
@@ -153,6 +154,14 @@ pub fn law_alike_texts()
 pub fn law_counted_states()
     ensures first { FirstStateIsCounted }
     ensures moves { CountedStateMovesCounted }
+{}
+
+/// In each state of a search all variables in use are below the next free one, in the present branch and in
+/// each alternative. The first state of each query is so, and every move of a program keeps it, where the
+/// variables of queries, clauses and rules are below their number.
+pub fn law_variables_below()
+    ensures first { FirstStateIsBelow }
+    ensures moves { MovesStayBelow }
 {}
 
 /// Clauses of alternatives that are bound to clash make no difference: the move of a stripped state

@@ -31,7 +31,7 @@ use Rattle.ref_terms.proofs.search.RuleInstanceVars.{RenamedFiring, rule-instanc
 use Rattle.ref_terms.proofs.search.UsedVars.{extended, extended-low, extended-high, one-to-one, older, in-order, each-same, constraint-same}
 
 -- lists of which each item is so
-every-append : {A : Type 0} (P : A → Type 0) (xs ys : List A) → Every P xs → Every P ys → Every P (xs ++ ys)
+pub every-append : {A : Type 0} (P : A → Type 0) (xs ys : List A) → Every P xs → Every P ys → Every P (xs ++ ys)
 every-append P [] ys u w = w
 every-append P (x ∷ xs) ys u w = (u.0, every-append P xs ys u.1 w)
 
@@ -43,7 +43,7 @@ every-append-right : {A : Type 0} (P : A → Type 0) (xs ys : List A) → Every 
 every-append-right P [] ys w = w
 every-append-right P (x ∷ xs) ys w = every-append-right P xs ys w.1
 
-every-weaker : {A : Type 0} (P Q : A → Type 0) → ((a : A) → P a → Q a) → (xs : List A) → Every P xs → Every Q xs
+pub every-weaker : {A : Type 0} (P Q : A → Type 0) → ((a : A) → P a → Q a) → (xs : List A) → Every P xs → Every Q xs
 every-weaker P Q h [] w = tt
 every-weaker P Q h (x ∷ xs) w = (h x w.0, every-weaker P Q h xs w.1)
 
@@ -51,7 +51,7 @@ every-both : {A : Type 0} (P Q R : A → Type 0) → ((a : A) → P a → Q a �
 every-both P Q R h [] u w = tt
 every-both P Q R h (x ∷ xs) u w = (h x u.0 w.0, every-both P Q R h xs u.1 w.1)
 
-every-mapped : {A B : Type 0} (P : B → Type 0) (f : A → B) (xs : List A) → Every (λ a. P (f a)) xs → Every P (map f xs)
+pub every-mapped : {A B : Type 0} (P : B → Type 0) (f : A → B) (xs : List A) → Every (λ a. P (f a)) xs → Every P (map f xs)
 every-mapped P f [] w = tt
 every-mapped P f (x ∷ xs) w = (w.0, every-mapped P f xs w.1)
 
@@ -73,7 +73,7 @@ module _ (Q : Constraint → Type 0) where
   every-pick before [] u w = tt
   every-pick before (c ∷ cs) u w = ((w.0, every-append Q before cs u w.1), every-pick (before ++ c ∷ []) cs (every-append Q before (c ∷ []) u (w.0, tt)) w.1)
 
-  every-tuple : {H : Type 0} (hs : List H) (store : List Constraint) → Every Q store → Every (Every Q) (tuples hs store)
+  pub every-tuple : {H : Type 0} (hs : List H) (store : List Constraint) → Every Q store → Every (Every Q) (tuples hs store)
   every-tuple [] store w = (tt, tt)
   every-tuple (h ∷ hs) store w = every-flat (Every Q) (λ p. map (λ cs. p.0 ∷ cs) (tuples hs p.1)) (picks [] store)
       (every-weaker (λ p. Q p.0 × Every Q p.1) (λ p. Every (Every Q) (map (λ cs. p.0 ∷ cs) (tuples hs p.1)))

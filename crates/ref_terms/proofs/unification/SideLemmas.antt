@@ -95,7 +95,7 @@ abbrev pub Values : ℕ → List Binding → Type 0
 Values q [] = Unit {0}
 Values q (b ∷ bs) = ((b.variable < q) × Fits (Known q) 0 b.value) × Values q bs
 
-fits-from : (q : ℕ) (t : Term) (j : ℕ) → ((v : ℕ) → q ≤ v → occurs v t ≡ false) → Fits (Known q) j t
+pub fits-from : (q : ℕ) (t : Term) (j : ℕ) → ((v : ℕ) → q ≤ v → occurs v t ≡ false) → Fits (Known q) j t
 fits-from q (Lam b) j h = fits-from q b (before j) h
 fits-from q (At (Var v)) j h = go (nat_eq v v) refl
   where
