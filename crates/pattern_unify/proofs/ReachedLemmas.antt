@@ -1,5 +1,5 @@
 -- What is reached from nodes that are made.
-use Rattle.std.proofs.Common.{◌≡◌, ℕ, suc, ◌<◌, ◌||◌, ◌++◌, List, [], ◌∷◌, length, map, Some, refl, sym, ap, ap₂, ◌∙◌, arith}
+use Rattle.std.proofs.Common.{◌≡◌, ℕ, ◌<◌, ◌||◌, ◌++◌, List, [], ◌∷◌, length, map, Some, sym, ap, ◌∙◌}
 use Rattle.level_terms.specs.declared.node.Node.TheVariants.{Level, Lam, App}
 use Rattle.level_terms.specs.declared.node.TermId.{TermId}
 use Rattle.level_terms.specs.Graph.{Graph, node_at}

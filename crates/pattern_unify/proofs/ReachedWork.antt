@@ -7,16 +7,15 @@ use Rattle.level_terms.specs.declared.node.VarId.{VarId}
 use Rattle.level_terms.specs.Graph.{Graph, node_at, value_in}
 use Rattle.level_terms.specs.Reached.{tree, tree_size, IsUnreached}
 use Rattle.level_terms.specs.Sound.{IsSound, AllOlder}
-use Rattle.level_terms.proofs.FoldLemmas.{parts_of}
 use Rattle.level_terms.proofs.GroundLemmas.{ground_normal-unreached}
 use Rattle.level_terms.proofs.NodeLemmas.{value-valid}
 use Rattle.level_terms.proofs.TreeLemmas.{value_below}
 use Rattle.level_terms.specs.Values.{value_of, AllMiss}
-use Rattle.level_terms.proofs.MakeLemmas.{parts-there, older-append, older-front, older-last}
+use Rattle.level_terms.proofs.MakeLemmas.{parts-there, older-append, older-front}
 use Rattle.level_terms.proofs.ReachLemmas.{leaf-misses, lam-misses, app-misses, var-misses, value-misses}
 use Rattle.level_terms.proofs.ReadLemmas.{valid-below}
 use Rattle.beta_fragment.proofs.WorkLemmas.{size-some, total, app-size, lam-size}
-use Rattle.pattern_unify.specs.inside.Reaching.{value_node, next_nodes, HasNext, IsLeft, bare, with_next, AllUnreached}
+use Rattle.pattern_unify.specs.Reaching.{value_node, next_nodes, IsLeft, bare, with_next, AllUnreached}
 
 all-miss : (g : Graph) (v : ℕ) (ts : List TermId) → AllUnreached g v ts → AllMiss v (map (value_of g) ts)
 all-miss g v [] w = tt

@@ -1,5 +1,5 @@
 -- What unification of two nodes answers.
-use Rattle.std.specs.Prelude.{◌≡◌, ℕ, ◌<◌, Bool, List, [], ◌∷◌, length}
+use Rattle.std.specs.Prelude.{◌≡◌, ℕ, ◌<◌, Bool, [], ◌∷◌, length}
 use Rattle.level_terms.specs.Graph.{Graph}
 use Rattle.level_terms.specs.Reading.{read}
 use Rattle.ref_terms.specs.terms.Term.{Term}
