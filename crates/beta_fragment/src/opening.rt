@@ -1,6 +1,6 @@
 //! The body of an abstraction, with a term for its own name.
 
-ghost use Rattle.std.specs.Prelude.{◌≡◌, ◌+◌, ◌<◌, ◌≤◌, ℕ, [], Some, IfOk};
+ghost use Rattle.std.specs.Prelude.{true, IsTrue, ◌≡◌, ◌+◌, ◌<◌, ◌≤◌, ℕ, [], Some, IfOk};
 ghost use Rattle.level_terms.specs.declared.node.TermId.{TermId as Id};
 ghost use Rattle.level_terms.specs.declared.node.Node.TheVariants.{Lam as lam_node};
 ghost use Rattle.level_terms.specs.Graph.{node_at};
@@ -9,6 +9,7 @@ ghost use Rattle.level_terms.specs.Reading.{read};
 ghost use Rattle.level_terms.specs.Growth.{Grows};
 ghost use Rattle.beta_fragment.specs.Names.{names};
 ghost use Rattle.ref_terms.specs.terms.Apply.{fill};
+ghost use Rattle.ref_terms.specs.terms.Ready.{ready};
 ghost use Rattle.beta_fragment.specs.Body.{IsLam, opened_reads, at_name};
 ghost use Rattle.beta_fragment.specs.Moves.{put_name as put_in};
 
@@ -108,6 +109,18 @@ fn filled(
     put_name(alloc, heap, arg, depth, named)
 }
 
+/// Whether a look tells that abstractions take the node.
+fn is_taken(heap: &Heap, t: TermId, depth: usize) -> bool
+    requires { IsValid heap.now t.index depth }
+    ensures { IsTrue result → ready (read heap.now t.index names) ≡ true }
+{
+    match looked_at(heap, t) {
+        Readiness::Level(_) => true,
+        Readiness::Ready(_) => true,
+        _ => false,
+    }
+}
+
 /// The node with another in the place of the name of the depth.
 pub(crate) fn put_name(
     alloc: Global,
@@ -124,7 +137,8 @@ pub(crate) fn put_name(
     ensures grows { Grows heap.old heap.new [] [] }
 {
     heap.is_sound();
-    if let Some(r) = put_node(alloc, heap, put, depth, t)? {
+    let taken = is_taken(heap, put, depth);
+    if let Some(r) = put_node(alloc, heap, put, depth, t, taken)? {
         return Ok(r);
     }
     reduced(alloc, heap, put, depth, t)
