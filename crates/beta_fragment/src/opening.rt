@@ -106,11 +106,12 @@ fn filled(
     heap.is_sound();
     let inner = sum_of(depth, 1)?;
     let named = opened(alloc, heap, lam, made, body, depth, inner)?;
-    put_name(alloc, heap, arg, depth, named)
+    let taken = is_taken(heap, arg, depth);
+    put_name(alloc, heap, arg, depth, named, taken)
 }
 
 /// Whether a look tells that abstractions take the node.
-fn is_taken(heap: &Heap, t: TermId, depth: usize) -> bool
+pub(crate) fn is_taken(heap: &Heap, t: TermId, depth: usize) -> bool
     requires { IsValid heap.now t.index depth }
     ensures { IsTrue result → ready (read heap.now t.index names) ≡ true }
 {
@@ -121,15 +122,18 @@ fn is_taken(heap: &Heap, t: TermId, depth: usize) -> bool
     }
 }
 
-/// The node with another in the place of the name of the depth.
+/// The node with another in the place of the name of the depth. Where abstractions take that, no
+/// part of the node is reduced for it.
 pub(crate) fn put_name(
     alloc: Global,
     heap: &mut Heap,
     put: TermId,
     depth: usize,
     t: TermId,
+    taken: bool,
 ) -> Result<TermId, AllocError>
     requires put { IsValid heap.old put.index depth }
+    requires taken { IsTrue taken → ready (read heap.old put.index names) ≡ true }
     requires valid { IsValid heap.old t.index (depth + 1) }
     ensures reads { IfOk result (λ r. read heap.new r.index names ≡ fill (put_in depth (read heap.old put.index names)) (read heap.old t.index names)) }
     ensures valid { IfOk result (λ r. IsValid heap.new r.index depth) }
@@ -137,7 +141,6 @@ pub(crate) fn put_name(
     ensures grows { Grows heap.old heap.new [] [] }
 {
     heap.is_sound();
-    let taken = is_taken(heap, put, depth);
     if let Some(r) = put_node(alloc, heap, put, depth, t, taken)? {
         return Ok(r);
     }

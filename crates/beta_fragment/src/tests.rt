@@ -106,8 +106,8 @@ fn puts_a_constant_into_a_body(rt: HostRuntime) -> Result<(), Fail> {
 fn puts_a_constant_for_a_level(rt: HostRuntime) -> Result<(), Fail> {
     let mut heap = Heap::new(rt.alloc());
     let s = made_sample(&mut heap)?;
-    let puts = [s.constant].as_slice();
-    let r = instantiate(rt.alloc(), &mut heap, s.name, 0, 0, puts)?;
+    let puts = [s.constant];
+    let r = instantiate(rt.alloc(), &mut heap, s.name, 0, 0, &puts)?;
     assert_eq!(rt; r, s.constant);
     Ok(())
 }

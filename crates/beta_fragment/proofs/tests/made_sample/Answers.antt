@@ -1,9 +1,10 @@
 use Rattle.std.proofs.Common.{ap}
 use Rattle.level_terms.specs.Graph.{Graph}
 use Rattle.beta_fragment.proofs.SampleLemmas.{IsSample, sample-made, constant-there, name-there, lam-there, redex-there, constant-plain}
+use Rattle.beta_fragment.proofs.tests.made_sample.Goals.{After-is_sound}
 use Rattle.beta_fragment.proofs.tests.made_sample.Goals as goal
 
-made : (c : goal.In_ok-redex) → IsSample c.app-2.new.self.nodes c.in_ok-constant.constant c.in_ok-name.name c.in_ok-lam.lam c.in_ok-redex.redex
+made : (c : After-is_sound) → IsSample c.app-2.new.self.nodes c.in_ok-constant.constant c.in_ok-name.name c.in_ok-lam.lam c.in_ok-redex.redex
 made c =
     let nodes : Graph → _ = λ g. g.nodes in
     sample-made _ _ c.args.heap.now.nodes c.con.new.self.nodes c.con-2.new.self.nodes c.level.new.self.nodes c.app.new.self.nodes c.lam.new.self.nodes c.app-2.new.self.nodes
