@@ -1,5 +1,6 @@
 -- Nodes with a term in the place of a level.
-use Rattle.std.proofs.Common.{◌≡◌, ℕ, zero, suc, ◌<◌, ◌≤◌, ◌-◌, ◌+◌, List, [], ◌∷◌, ◌++◌, map, length, cond, nat_eq, nat_lt, Bool, true, false, Some, None, slice_index, refl, sym, ap, ap₂, ◌∙◌, arith, subst, eqb-true, eq-eqb, ne_eqb}
+use Rattle.std.specs.Prelude.{IsTrue}
+use Rattle.std.proofs.Common.{inl, inr, ◌⊎◌, ◌≡◌, ℕ, zero, suc, ◌<◌, ◌≤◌, ◌-◌, ◌+◌, List, [], ◌∷◌, ◌++◌, map, length, cond, nat_eq, nat_lt, Bool, true, false, Some, None, slice_index, refl, sym, ap, ap₂, ◌∙◌, arith, subst, eqb-true, eq-eqb, ne_eqb}
 use Rattle.std.specs.List.{list_all}
 use mathlib.Core.Path.{fun_ext}
 use Rattle.level_terms.specs.declared.node.Node.TheVariants.{Level, Lam, App, Var}
@@ -22,14 +23,18 @@ use Rattle.ref_terms.specs.terms.Apply.{apply, below, fill}
 use Rattle.ref_terms.specs.terms.Built.{IsBuilt}
 use Rattle.ref_terms.specs.terms.Occurs.{is_name, has_name}
 use Rattle.ref_terms.specs.unification.Spine.{apply_all}
-use Rattle.ref_terms.specs.laws.TermLaws.{AllBuilt}
-use Rattle.ref_terms.specs.lemmas.ComposeLemmas.{fill-lam}
+use Rattle.ref_terms.specs.terms.Ready.{ready}
+use Rattle.ref_terms.specs.laws.TermLaws.{AllBuilt, KeepsReady}
+use Rattle.ref_terms.specs.lemmas.ReadyFacts.{ready-sub, ready-name, ready-bound}
+use Rattle.ref_terms.specs.lemmas.ComposeLemmas.{fill-lam, fill-apply}
 use Rattle.ref_terms.specs.lemmas.OccursLemmas.{fill_at}
 use Rattle.ref_terms.specs.lemmas.NameLemmas.{fill-agree_names}
 use Rattle.level_terms.specs.Values.{Value, IsLamOf, IsAppOf, IsLevelOf, IsVarOf}
 use Rattle.beta_fragment.specs.Moves.{putting, Puts, IsPutLevel, ArePutLevels, IsPutVar, around, put_name, Lacks}
 use Rattle.beta_fragment.specs.Firm.{IsPlain, IsPlainNode}
-use Rattle.level_terms.proofs.ReadLemmas.{read-built}
+use Rattle.beta_fragment.specs.Names.{names}
+use Rattle.level_terms.proofs.ReadLemmas.{read-built, read-follows, places-ready}
+use Rattle.beta_fragment.proofs.EnterLemmas.{names-places}
 use Rattle.beta_fragment.proofs.EnterLemmas.{body-valid}
 use Rattle.level_terms.proofs.MakeLemmas.{and_both, below_true}
 use Rattle.beta_fragment.proofs.MoveLemmas.{below_false, below_from, above_from, AllMove}
@@ -41,12 +46,39 @@ pub record CanPut (put : (ℕ → Term) → Term) (level : ℕ) : Type 0 where
   pub built : (env : ℕ → Term) → IsBuilt (put env)
   pub enters : (e : ℕ) (env : ℕ → Term) → level ≤ e → put (enter e env) ≡ shift (put env)
 
-put-built : (n : ℕ) (s : Term) → IsBuilt s → AllBuilt (put_name n s)
+pub put-built : (n : ℕ) (s : Term) → IsBuilt s → AllBuilt (put_name n s)
 put-built n s w h = go (is_name n h)
   where
     go : (b : Bool) → IsBuilt (cond b s (At h))
     go true = w
     go false = tt
+
+-- a ready term in the place of a name goes through each application
+pub put-keeps : (n : ℕ) (s : Term) → ready s ≡ true → KeepsReady (put_name n s)
+put-keeps n s r h e = go (is_name n h)
+  where
+    go : (b : Bool) → ready (cond b s (At h)) ≡ true
+    go true = r
+    go false = e
+
+pub put-applies : (n : ℕ) (s : Term) → IsBuilt s → ready s ≡ true → (xs : List Term) (t : Term) → fill (put_name n s) (apply_all t xs) ≡ apply_all (fill (put_name n s) t) (map (fill (put_name n s)) xs)
+put-applies n s w r [] t = refl
+put-applies n s w r (x ∷ xs) t = put-applies n s w r xs (apply t x) ∙ ap (λ z. apply_all z (map (fill (put_name n s)) xs)) (fill-apply (put_name n s) (put-built n s w) (put-keeps n s r) t x)
+
+-- whether a node is ready doesn't hang on the places that its levels stand for
+ready-places : (g : Graph) → IsSound g → (t : ℕ) (env : ℕ → Term) → ArePlaces env → ready (read g t env) ≡ ready (read g t (λ i. At (term.Bound i)))
+ready-places g s t env p = ap ready (sym (read-follows g s t (λ i. At (term.Bound i)) env p)) ∙ ready-sub env (places-ready env p) (read g t (λ i. At (term.Bound i)))
+
+-- wherever the levels stand for places, the term is ready
+abbrev pub IsReadyPut : ((ℕ → Term) → Term) → Type 0
+IsReadyPut put = (env : ℕ → Term) → ArePlaces env → ready (put env) ≡ true
+
+ready-put : (g : Graph) → IsSound g → (t : ℕ) → ready (read g t names) ≡ true → IsReadyPut (read g t)
+ready-put g s t r env p = ready-places g s t env p ∙ sym (ready-places g s t names names-places) ∙ r
+
+pub goes-through : (g : Graph) (put head : ℕ) (b : Bool) → IsSound g → (IsTrue b → ready (read g put names) ≡ true) → (b ≡ false → IsPlainNode g head) → IsPlainNode g head ⊎ IsReadyPut (read g put)
+goes-through g put head true s r p = inr (ready-put g s put (r refl))
+goes-through g put head false s r p = inl (p refl)
 
 -- without the name nothing changes
 at-built : (h : Head) → IsBuilt (At h)
@@ -158,7 +190,7 @@ put-lam g put level t s d b y x sound can e v deep m w = record {
       w.holds (m.holds (d - 1 + 1) (omega (arith, deep))) f (omega (arith, low, q));
 }
 
--- an application whose head is no abstraction
+-- an application whose head is no abstraction, or into which a ready term is put
 fill-spine : (r : Head → Term) (xs : List Term) (t : Term) → IsPlain t → fill r (apply_all t xs) ≡ apply_all (fill r t) (map (fill r) xs)
 fill-spine r [] t w = refl
 fill-spine r (x ∷ xs) t w =
@@ -178,13 +210,18 @@ all-put g put level base s (t ∷ ts) [] w f q = absurd w
 all-put g put level base s [] (x ∷ xs) w f q = absurd w
 all-put g put level base s (t ∷ ts) (x ∷ xs) w f q = and_both (x.holds f) _ (w.0.holds f q) (all-put g put level base s ts xs w.1 f q)
 
-pub put-app : (g : Graph) (put : (ℕ → Term) → Term) (level t base s : ℕ) (k : TermId) (ts : List TermId) (h x : Value) (xs : List Value) → IsSound g → node_at g.nodes t ≡ Some (App k ts) → IsPlainNode g k.index →
+through-spine : (g : Graph) (put : (ℕ → Term) → Term) (level k : ℕ) → CanPut put level → IsPlainNode g k ⊎ IsReadyPut put → (env : ℕ → Term) → ArePlaces env → (xs : List Term) →
+    fill (put_name level (put env)) (apply_all (read g k (around level env)) xs) ≡ apply_all (fill (put_name level (put env)) (read g k (around level env))) (map (fill (put_name level (put env))) xs)
+through-spine g put level k can (inl w) env p xs = fill-spine (put_name level (put env)) xs (read g k (around level env)) (w (around level env) (around-places level env p))
+through-spine g put level k can (inr r) env p xs = put-applies level (put env) (can.built env) (r env p) xs (read g k (around level env))
+
+pub put-app : (g : Graph) (put : (ℕ → Term) → Term) (level t base s : ℕ) (k : TermId) (ts : List TermId) (h x : Value) (xs : List Value) → IsSound g → CanPut put level → node_at g.nodes t ≡ Some (App k ts) → IsPlainNode g k.index ⊎ IsReadyPut put →
     Puts g put level k.index s h → AllMove g (putting put level) base s ts xs → IsAppOf h xs x → Puts g put level t s x
-put-app g put level t base s k ts h x xs sound e plain m ms w = record {
+put-app g put level t base s k ts h x xs sound can e through m ms w = record {
   term = λ env p l. w.term env p
       ∙ ap₂ apply_all (m.term env p l) (terms-put g put level base s ts xs ms env p l)
       ∙ sym (ap (fill (put_name level (put env))) (nodes_read g t (App k ts) (around level env) sound (around-places level env p) e)
-      ∙ fill-spine (put_name level (put env)) (map (λ u. read g u.index (around level env)) ts) (read g k.index (around level env)) (plain (around level env) (around-places level env p)));
+      ∙ through-spine g put level k.index can through env p (map (λ u. read g u.index (around level env)) ts));
   holds = λ f q. w.holds f (m.holds f q) (all-put g put level base s ts xs ms f q);
 }
 

@@ -1,5 +1,5 @@
 -- Steps of putting a term in the place of a level.
-use Rattle.std.proofs.Common.{◌≡◌, ℕ, suc, ◌<◌, ◌-◌, ◌*◌, ◌++◌, List, [], ◌∷◌, length, refl, sym, ap, ◌∙◌, arith, subst, append_assoc, Some, slice_index}
+use Rattle.std.proofs.Common.{inl, inr, ◌⊎◌, ◌≡◌, ℕ, suc, ◌<◌, ◌-◌, ◌*◌, ◌++◌, List, [], ◌∷◌, length, refl, sym, ap, ◌∙◌, arith, subst, append_assoc, Some, slice_index}
 use Rattle.level_terms.specs.declared.node.Node.TheVariants.{Lam as lam_node, App as app_node, Var as var_node}
 use Rattle.level_terms.specs.declared.node.TermId.{TermId}
 use Rattle.level_terms.specs.declared.node.VarId.{VarId}
@@ -24,7 +24,7 @@ use Rattle.beta_fragment.proofs.MoveLemmas.{app-valid, node-before, assigned-bef
 use Rattle.beta_fragment.proofs.VarLemmas.{var-known, depth-before}
 use Rattle.beta_fragment.proofs.FirmLemmas.{entered-shift}
 use Rattle.beta_fragment.proofs.WorkLemmas.{lam-size, visits-lead, moved-length}
-use Rattle.beta_fragment.proofs.PutLemmas.{CanPut, put-lam, put-app, put-value}
+use Rattle.beta_fragment.proofs.PutLemmas.{CanPut, IsReadyPut, put-lam, put-app, put-value}
 
 -- a node that is valid at the level can be put there
 pub can-put : (g : Graph) (t level : ℕ) → IsSound g → IsValid g t level → CanPut (read g t) level
@@ -35,6 +35,10 @@ can-put g t level s v = record {
 
 pub plain-before : (g h : Graph) (t s : ℕ) → IsSound g → Grows g h [] [] → IsValid g t s → IsPlainNode h t → IsPlainNode g t
 plain-before g h t s sg gr v w env p = subst IsPlain (ap (λ r. r env) (grown-reads g h sg gr t (valid-below g t s v))) (w env p)
+
+through-before : (g h : Graph) (t s : ℕ) (put : (ℕ → Term) → Term) → IsSound g → Grows g h [] [] → IsValid g t s → IsPlainNode h t ⊎ IsReadyPut put → IsPlainNode g t ⊎ IsReadyPut put
+through-before g h t s put sg gr v (inl w) = inl (plain-before g h t s sg gr v w)
+through-before g h t s put sg gr v (inr r) = inr r
 
 module _ (put : (ℕ → Term) → Term) (level : ℕ) where
   pub put-lam-leads : (g : Graph) (t base source : ℕ) (node body : TermId) (b d : ℕ) (k : List Task) (xs : List Value) → IsSound g → CanPut put level → level < d → (node.index < length g.nodes → node_at g.nodes node.index ≡ Some (lam_node d body)) →
@@ -48,9 +52,9 @@ module _ (put : (ℕ → Term) → Term) (level : ℕ) where
         λ y m. (xs, y, refl, λ x w. h.4 x (put-lam g put level node.index h.0 d body y x sg can e h.1 deep m w)),
       )
 
-  pub put-app-leads : (g h : Graph) (t base source : ℕ) (node head : TermId) (args : List TermId) (b : ℕ) (k : List Task) (xs : List Value) → IsSound g → Grows g h [] [] → IsPlainNode h head.index → (node.index < length g.nodes → node_at g.nodes node.index ≡ Some (app_node head args)) →
+  pub put-app-leads : (g h : Graph) (t base source : ℕ) (node head : TermId) (args : List TermId) (b : ℕ) (k : List Task) (xs : List Value) → IsSound g → Grows g h [] [] → CanPut put level → IsPlainNode h head.index ⊎ IsReadyPut put → (node.index < length g.nodes → node_at g.nodes node.index ≡ Some (app_node head args)) →
       Leads g (putting put level) t base source (Visit node b ∷ k) xs → Leads g (putting put level) t base source ((Visit head b ∷ (visits b args ++ App (length args) ∷ [])) ++ k) xs
-  put-app-leads g h t base source node head args b k xs sg gr plain here l =
+  put-app-leads g h t base source node head args b k xs sg gr can through here l =
       let e = here (valid-below g node.index l.0 l.1) in
       let parts = app-valid g node.index l.0 head args sg e l.1 in (
         l.0,
@@ -66,7 +70,7 @@ module _ (put : (ℕ → Term) → Term) (level : ℕ) where
               more,
               append_assoc xs (y ∷ []) more,
               moved-length g (putting put level) b l.0 args more w,
-              λ x a. l.4 x (put-app g put level node.index b l.0 head args y x more sg e (plain-before g h head.index l.0 sg gr parts.0 plain) m w a),
+              λ x a. l.4 x (put-app g put level node.index b l.0 head args y x more sg can e (through-before g h head.index l.0 put sg gr parts.0 through) m w a),
             ))),
       )
 

@@ -37,30 +37,11 @@ use Rattle.level_terms.proofs.MakeLemmas.{parts-there, apply_all-append}
 use Rattle.beta_fragment.proofs.MoveLemmas.{node-before, assigned-before, below_from, above_from}
 use Rattle.beta_fragment.proofs.WorkLemmas.{lam-size}
 use Rattle.beta_fragment.proofs.NamelessLemmas.{nameless-read}
-use Rattle.beta_fragment.proofs.PutLemmas.{put-absent}
+use Rattle.beta_fragment.proofs.PutLemmas.{put-absent, put-built, put-keeps, put-applies}
 use Rattle.beta_fragment.proofs.FilledLemmas.{low_names, low-lack, low-same}
 use Rattle.beta_fragment.proofs.HeadLemmas.{renamed-places, take-front, take-next, take-more, lam-within, newest-arg, valid-append, read-grown_all, valid-grown_all}
 use Rattle.beta_fragment.proofs.FirmLemmas.{applied-ready, apply-plain}
 use Rattle.beta_fragment.proofs.TakingLaws.{rigid-ready}
-
--- a ready term in the place of a name
-put-built : (n : ℕ) (s : Term) → IsBuilt s → AllBuilt (put_name n s)
-put-built n s w h = go (is_name n h)
-  where
-    go : (b : Bool) → IsBuilt (cond b s (At h))
-    go true = w
-    go false = tt
-
-put-keeps : (n : ℕ) (s : Term) → ready s ≡ true → KeepsReady (put_name n s)
-put-keeps n s r h e = go (is_name n h)
-  where
-    go : (b : Bool) → ready (cond b s (At h)) ≡ true
-    go true = r
-    go false = e
-
-pub put-applies : (n : ℕ) (s : Term) → IsBuilt s → ready s ≡ true → (xs : List Term) (t : Term) → fill (put_name n s) (apply_all t xs) ≡ apply_all (fill (put_name n s) t) (map (fill (put_name n s)) xs)
-put-applies n s w r [] t = refl
-put-applies n s w r (x ∷ xs) t = put-applies n s w r xs (apply t x) ∙ ap (λ z. apply_all z (map (fill (put_name n s)) xs)) (fill-apply (put_name n s) (put-built n s w) (put-keeps n s r) t x)
 
 -- the name itself
 pub put-own : (n : ℕ) (s : Term) → fill (put_name n s) (names n) ≡ s

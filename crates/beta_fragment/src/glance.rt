@@ -46,7 +46,19 @@ pub(crate) fn is_plain(heap: &Heap, t: TermId) -> bool
         Node::Str(_) => true,
         Node::Level(_) => true,
         Node::Var(v) => is_free(heap, *v),
+        Node::Lam { .. } => is_bare_var(heap, t),
         _ => false,
+    }
+}
+
+/// Whether the node is an abstraction's that contracts to a variable without a value.
+fn is_bare_var(heap: &Heap, t: TermId) -> bool
+    requires { t.index < length heap.now.nodes }
+    ensures { IsTrue result → IsPlainNode heap.now t.index }
+{
+    match bare_var_of(heap, t, 0) {
+        Some(_) => true,
+        None => false,
     }
 }
 

@@ -11,7 +11,7 @@ ghost use Rattle.beta_fragment.specs.HeadForm.{AllValidAt, all_read};
 ghost use Rattle.beta_fragment.specs.Instantiation.{put_names, AllPlain};
 
 use crate::levels::Levels;
-use crate::opening::put_name;
+use crate::opening::{is_taken, put_name};
 use crate::renaming::{moved_node, sum_of};
 use level_terms::{Heap, TermId};
 use std::alloc::{AllocError, Global};
@@ -105,7 +105,9 @@ fn put_all(
         i -= 1;
         heap.is_sound();
         let level = sum_of(to, i)?;
-        node = put_name(alloc, heap, puts[i], level, node)?;
+        let put = puts[i];
+        let taken = is_taken(heap, put, level);
+        node = put_name(alloc, heap, put, level, node, taken)?;
     }
     Ok(node)
 }

@@ -1,6 +1,6 @@
 //! The body of an abstraction, with a term for its own name.
 
-ghost use Rattle.std.specs.Prelude.{◌≡◌, ◌+◌, ◌<◌, ◌≤◌, ℕ, [], Some, IfOk};
+ghost use Rattle.std.specs.Prelude.{true, IsTrue, ◌≡◌, ◌+◌, ◌<◌, ◌≤◌, ℕ, [], Some, IfOk};
 ghost use Rattle.level_terms.specs.declared.node.TermId.{TermId as Id};
 ghost use Rattle.level_terms.specs.declared.node.Node.TheVariants.{Lam as lam_node};
 ghost use Rattle.level_terms.specs.Graph.{node_at};
@@ -9,6 +9,7 @@ ghost use Rattle.level_terms.specs.Reading.{read};
 ghost use Rattle.level_terms.specs.Growth.{Grows};
 ghost use Rattle.beta_fragment.specs.Names.{names};
 ghost use Rattle.ref_terms.specs.terms.Apply.{fill};
+ghost use Rattle.ref_terms.specs.terms.Ready.{ready};
 ghost use Rattle.beta_fragment.specs.Body.{IsLam, opened_reads, at_name};
 ghost use Rattle.beta_fragment.specs.Moves.{put_name as put_in};
 
@@ -105,18 +106,34 @@ fn filled(
     heap.is_sound();
     let inner = sum_of(depth, 1)?;
     let named = opened(alloc, heap, lam, made, body, depth, inner)?;
-    put_name(alloc, heap, arg, depth, named)
+    let taken = is_taken(heap, arg, depth);
+    put_name(alloc, heap, arg, depth, named, taken)
 }
 
-/// The node with another in the place of the name of the depth.
+/// Whether a look tells that abstractions take the node.
+pub(crate) fn is_taken(heap: &Heap, t: TermId, depth: usize) -> bool
+    requires { IsValid heap.now t.index depth }
+    ensures { IsTrue result → ready (read heap.now t.index names) ≡ true }
+{
+    match looked_at(heap, t) {
+        Readiness::Level(_) => true,
+        Readiness::Ready(_) => true,
+        _ => false,
+    }
+}
+
+/// The node with another in the place of the name of the depth. Where abstractions take that, no
+/// part of the node is reduced for it.
 pub(crate) fn put_name(
     alloc: Global,
     heap: &mut Heap,
     put: TermId,
     depth: usize,
     t: TermId,
+    taken: bool,
 ) -> Result<TermId, AllocError>
     requires put { IsValid heap.old put.index depth }
+    requires taken { IsTrue taken → ready (read heap.old put.index names) ≡ true }
     requires valid { IsValid heap.old t.index (depth + 1) }
     ensures reads { IfOk result (λ r. read heap.new r.index names ≡ fill (put_in depth (read heap.old put.index names)) (read heap.old t.index names)) }
     ensures valid { IfOk result (λ r. IsValid heap.new r.index depth) }
@@ -124,7 +141,7 @@ pub(crate) fn put_name(
     ensures grows { Grows heap.old heap.new [] [] }
 {
     heap.is_sound();
-    if let Some(r) = put_node(alloc, heap, put, depth, t)? {
+    if let Some(r) = put_node(alloc, heap, put, depth, t, taken)? {
         return Ok(r);
     }
     reduced(alloc, heap, put, depth, t)

@@ -1,14 +1,17 @@
 //! A term in the place of a level.
 //!
-//! The walk is that of renaming. It stops at an application whose head may be an abstraction, since
-//! such a term may reduce before the term is put into it and not after, and answers none there.
+//! The walk is that of renaming. Where the term isn't known to be ready it stops at an application
+//! whose head may be an abstraction, since such a term may reduce before the term is put into it and
+//! not after, and answers none there. A ready term goes through every application.
 
-ghost use Rattle.std.specs.Prelude.{◌≡◌, ◌+◌, ◌-◌, List, reverse, ◌<◌, ◌≤◌, ℕ, [], ◌∷◌, ◌++◌, length, map, slice_index, IfOk, IfSome, IsTrue, OnOk, Some, None};
+ghost use Rattle.std.specs.Prelude.{true, false, ◌≡◌, ◌+◌, ◌-◌, List, reverse, ◌<◌, ◌≤◌, ℕ, [], ◌∷◌, ◌++◌, length, map, slice_index, IfOk, IfSome, IsTrue, OnOk, Some, None};
 ghost use Rattle.level_terms.specs.Graph.{node_at, value_in};
 ghost use Rattle.level_terms.specs.Sound.{AllOlder};
 ghost use Rattle.level_terms.specs.Valid.{IsValid};
 ghost use Rattle.level_terms.specs.Reading.{read};
 ghost use Rattle.level_terms.specs.Growth.{Grows};
+ghost use Rattle.ref_terms.specs.terms.Ready.{ready};
+ghost use Rattle.beta_fragment.specs.Names.{names};
 ghost use Rattle.beta_fragment.specs.Moves.{putting, IsPutLevel, ArePutLevels, IsPutVar, Puts};
 ghost use Rattle.level_terms.specs.Values.{value_of, IsVarOf};
 ghost use Rattle.beta_fragment.specs.Firm.{IsPlainNode};
@@ -109,7 +112,8 @@ fn put_at_lam(
     Ok(())
 }
 
-/// Does a task that visits an application whose head is no abstraction.
+/// Does a task that visits an application, whose head is no abstraction or into which a ready term
+/// is put.
 fn put_at_app(
     heap: &Heap,
     put: TermId,
@@ -118,10 +122,13 @@ fn put_at_app(
     base: usize,
     head: TermId,
     args: &[TermId],
+    taken: bool,
     work: &mut Vec<Task>,
 ) -> Result<(), AllocError>
     requires here { node_at heap.now.nodes node.index ≡ Some (app_node head args.now) }
-    requires plain { IsPlainNode heap.now head.index }
+    requires put { IsValid heap.now put.index level }
+    requires taken { IsTrue taken → ready (read heap.now put.index names) ≡ true }
+    requires plain { taken ≡ false → IsPlainNode heap.now head.index }
     ensures steps { OnOk result ((done : List Id) → Steps (putting (read heap.now put.index) level) (record { heap = heap.now; work = work.old.items ++ visit_task node base ∷ []; done = done }) (record { heap = heap.now; work = work.new.items; done = done })) }
 {
     heap.is_sound();
@@ -214,7 +221,7 @@ fn put_at_var(
     Ok(())
 }
 
-/// Does a task that visits a node which takes no reduction.
+/// Does a task that visits a node which takes no reduction, or into which a ready term is put.
 fn put_at(
     alloc: Global,
     heap: &mut Heap,
@@ -222,11 +229,13 @@ fn put_at(
     level: usize,
     node: TermId,
     base: usize,
+    taken: bool,
     work: &mut Vec<Task>,
     done: &mut Vec<TermId>,
 ) -> Result<(), AllocError>
     requires there { node.index < length heap.old.nodes }
-    requires plain { HasPlainHead heap.old (node_at heap.old.nodes node.index) }
+    requires taken { IsTrue taken → ready (read heap.old put.index names) ≡ true }
+    requires plain { taken ≡ false → HasPlainHead heap.old (node_at heap.old.nodes node.index) }
     requires put { IsValid heap.old put.index level }
     requires done { AllOlder (length heap.old.nodes) done.old.items }
     ensures steps { OnOk result (Steps (putting (read heap.old put.index) level) (record { heap = heap.old; work = work.old.items ++ visit_task node base ∷ []; done = done.old.items }) (record { heap = heap.new; work = work.new.items; done = done.new.items })) }
@@ -249,7 +258,7 @@ fn put_at(
             put_at_lam(heap, put, level, node, base, depth, body, work)
         }
         Node::App { head, args } => {
-            put_at_app(heap, put, level, node, base, *head, args.as_slice(), work)
+            put_at_app(heap, put, level, node, base, *head, args.as_slice(), taken, work)
         }
         Node::Var(v) => {
             let v = *v;
@@ -289,18 +298,28 @@ fn is_direct(heap: &Heap, task: Task) -> bool
     }
 }
 
-/// Does a task that takes no reduction.
+/// Whether the task can be done: a ready term is put, or the task is certain to take no reduction.
+fn can_go(heap: &Heap, task: Task, taken: bool) -> bool
+    requires { IsTaskThere (length heap.now.nodes) task }
+    ensures { IsTrue result → taken ≡ false → IsDirect heap.now task }
+{
+    taken || is_direct(heap, task)
+}
+
+/// Does a task that takes no reduction, or puts a ready term.
 fn put_step(
     alloc: Global,
     heap: &mut Heap,
     put: TermId,
     level: usize,
     task: Task,
+    taken: bool,
     work: &mut Vec<Task>,
     done: &mut Vec<TermId>,
 ) -> Result<(), AllocError>
     requires put { IsValid heap.old put.index level }
-    requires plain { IsDirect heap.old task }
+    requires taken { IsTrue taken → ready (read heap.old put.index names) ≡ true }
+    requires plain { taken ≡ false → IsDirect heap.old task }
     requires ready { IsReady (putting (read heap.old put.index) level) (length heap.old.nodes) (length done.old.items) task }
     requires done { AllOlder (length heap.old.nodes) done.old.items }
     ensures steps { OnOk result (Steps (putting (read heap.old put.index) level) (record { heap = heap.old; work = work.old.items ++ task ∷ []; done = done.old.items }) (record { heap = heap.new; work = work.new.items; done = done.new.items })) }
@@ -309,22 +328,26 @@ fn put_step(
     ensures grows { Grows heap.old heap.new [] [] }
 {
     match task {
-        Task::Visit { node, base } => put_at(alloc, heap, put, level, node, base, work, done),
+        Task::Visit { node, base } => {
+            put_at(alloc, heap, put, level, node, base, taken, work, done)
+        }
         Task::Lam { depth } => make_lam(heap, depth, done),
         Task::App { args } => make_app(alloc, heap, args, done),
     }
 }
 
 /// The node with another in the place of the level, and the levels above it one lower. None where
-/// that may take reduction.
+/// that may take reduction, and the other isn't known to be taken by abstractions.
 pub(crate) fn put_node(
     alloc: Global,
     heap: &mut Heap,
     put: TermId,
     level: usize,
     t: TermId,
+    taken: bool,
 ) -> Result<Option<TermId>, AllocError>
     requires put { IsValid heap.old put.index level }
+    requires taken { IsTrue taken → ready (read heap.old put.index names) ≡ true }
     requires valid { IsValid heap.old t.index (level + 1) }
     ensures puts { IfOk result (λ o. IfSome o (λ r. Puts heap.old (read heap.old put.index) level t.index (level + 1) (value_of heap.new r))) }
     ensures there { IfOk result (λ o. IfSome o (λ r. r.index < length heap.new.nodes)) }
@@ -335,10 +358,12 @@ pub(crate) fn put_node(
     let mut work = first_task(alloc, t, 0)?;
     let mut done = Vec::new(alloc);
     while let Some(task) = work.pop() {
-        if !is_direct(heap, task) {
+        if !can_go(heap, task, taken) {
             return Ok(None);
         }
-        put_step(alloc, heap, put, level, task, &mut work, &mut done)?;
+        put_step(
+            alloc, heap, put, level, task, taken, &mut work, &mut done,
+        )?;
     }
     match done.pop() {
         Some(r) => Ok(Some(r)),

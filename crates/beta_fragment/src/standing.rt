@@ -40,7 +40,7 @@ fn is_stand_in(head: RigidHead, name: usize) -> bool
     }
 }
 
-/// Nodes with another in the place of the name of the depth.
+/// Nodes with another, which is ready, in the place of the name of the depth.
 fn put_each(
     alloc: Global,
     heap: &mut Heap,
@@ -49,6 +49,7 @@ fn put_each(
     ts: &[TermId],
 ) -> Result<TermIds, AllocError>
     requires put { IsValid heap.old put.index depth }
+    requires ready { ready (read heap.old put.index names) ≡ true }
     requires valid { AllValidAt heap.old ts.now (depth + 1) }
     ensures reads { IfOk result (λ list. all_read heap.new list ≡ map (fill (put_in depth (read heap.old put.index names))) (all_read heap.old ts.now)) }
     ensures valid { IfOk result (λ list. AllValidAt heap.new list depth) }
@@ -59,7 +60,7 @@ fn put_each(
     let mut list = TermIds::new(alloc);
     for t in ts {
         heap.is_sound();
-        let r = put_name(alloc, heap, put, depth, *t)?;
+        let r = put_name(alloc, heap, put, depth, *t, true)?;
         list.push(r)?;
     }
     Ok(list)
@@ -180,7 +181,7 @@ fn with_put(
     heap.is_sound();
     match form {
         Whnf::Lam(t) => {
-            let r = put_name(alloc, heap, put, depth, t)?;
+            let r = put_name(alloc, heap, put, depth, t, true)?;
             lam_before(alloc, heap, r, TermIds::new(alloc), depth)
         }
         Whnf::Rigid(head, args) => {
@@ -197,7 +198,7 @@ fn with_put(
         Whnf::Redex(t, args) => {
             let list = put_each(alloc, heap, put, depth, args.as_slice())?;
             heap.is_sound();
-            let r = put_name(alloc, heap, put, depth, t)?;
+            let r = put_name(alloc, heap, put, depth, t, true)?;
             lam_before(alloc, heap, r, list, depth)
         }
     }

@@ -12,7 +12,7 @@ use Rattle.ref_terms.specs.search.Fault.{Judged, Good, Bad}
 use Rattle.ref_terms.specs.declared.fault.Fault.{Fault}
 use Rattle.ref_terms.specs.declared.reserved.Reserved.{Reserved}
 use Rattle.beta_fragment.specs.Names.{names}
-use Rattle.beta_fragment.proofs.ReadLemmas.{valid-below}
+use Rattle.level_terms.proofs.ReadLemmas.{valid-below}
 use Rattle.builtins.specs.declared.evaluating.Frame.{Frame}
 use Rattle.builtins.specs.declared.evaluating.Frame.TheVariants.{Left, Right}
 use Rattle.builtins.specs.inside.Numbers.{operator_word}

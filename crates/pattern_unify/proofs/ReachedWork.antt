@@ -15,7 +15,7 @@ use Rattle.level_terms.proofs.MakeLemmas.{parts-there, older-append, older-front
 use Rattle.level_terms.proofs.ReachLemmas.{leaf-misses, lam-misses, app-misses, var-misses, value-misses}
 use Rattle.level_terms.proofs.ReadLemmas.{valid-below}
 use Rattle.beta_fragment.proofs.WorkLemmas.{size-some, total, app-size, lam-size}
-use Rattle.pattern_unify.specs.Reaching.{value_node, next_nodes, IsLeft, bare, with_next, AllUnreached}
+use Rattle.pattern_unify.specs.inside.Reaching.{value_node, next_nodes, IsLeft, bare, with_next, AllUnreached}
 
 all-miss : (g : Graph) (v : ℕ) (ts : List TermId) → AllUnreached g v ts → AllMiss v (map (value_of g) ts)
 all-miss g v [] w = tt

@@ -1,10 +1,17 @@
 -- The nodes of the sample that the tests use.
-use Rattle.std.proofs.Common.{◌≡◌, ℕ, List, [], ◌∷◌, true, length, refl, ap, ◌∙◌}
+use Rattle.std.proofs.Common.{◌≡◌, ℕ, List, [], ◌∷◌, true, Some, length, refl, ap, ◌∙◌}
 use Rattle.level_terms.specs.declared.node.Node.{Node}
 use Rattle.level_terms.specs.declared.node.Node.TheVariants.{Con, Level, Lam, App}
 use Rattle.level_terms.specs.declared.node.TermId.{TermId}
+use Rattle.level_terms.specs.Graph.{Graph, node_at}
+use Rattle.level_terms.specs.Sound.{IsSound}
+use Rattle.level_terms.specs.Reading.{read}
 use Rattle.level_terms.specs.Valid.{valid}
 use Rattle.ref_terms.specs.declared.sym.Sym.{Sym}
+use Rattle.beta_fragment.specs.Firm.{IsPlain}
+use Rattle.beta_fragment.specs.Names.{names}
+use Rattle.beta_fragment.proofs.EnterLemmas.{names-places}
+use Rattle.beta_fragment.proofs.FirmLemmas.{by-node}
 
 abbrev pub sample : (f constant name body lam : TermId) (args more : List TermId) (a b : Sym) → List Node
 sample f constant name body lam args more a b = App lam more ∷ Lam 0 body ∷ App f args ∷ Level 0 ∷ Con b ∷ Con a ∷ []
@@ -81,3 +88,6 @@ lam-there depths nodes constant name lam redex s = ap (λ ns. valid ns depths la
 
 pub redex-there : (depths : List ℕ) (nodes : List Node) (constant name lam redex : TermId) → IsSample nodes constant name lam redex → valid nodes depths redex.index 0 ≡ true
 redex-there depths nodes constant name lam redex s = ap (λ ns. valid ns depths redex.index 0) s.nodes_are ∙ ap (λ t. valid (sample (id 0) (id 1) (id 2) (id 3) (id 4) (id 2 ∷ id 2 ∷ []) (id 1 ∷ []) s.a s.b) depths t 0) s.redex_is ∙ redex-valid depths s.a s.b
+
+pub constant-plain : (g : Graph) (constant name lam redex : TermId) → IsSound g → IsSample g.nodes constant name lam redex → IsPlain (read g constant.index names)
+constant-plain g constant name lam redex sound s = by-node IsPlain g constant.index (Con s.b) sound (ap (λ ns. node_at ns constant.index) s.nodes_are ∙ ap (node_at (sample (id 0) (id 1) (id 2) (id 3) (id 4) (id 2 ∷ id 2 ∷ []) (id 1 ∷ []) s.a s.b)) s.constant_is) (λ env p. tt) names names-places

@@ -3,9 +3,14 @@
 ghost use Rattle.std.specs.Prelude.{◌≡◌, [], ◌∷◌, IfOk};
 ghost use Rattle.level_terms.specs.Graph.{node_at};
 ghost use Rattle.level_terms.specs.Valid.{IsValid};
+ghost use Rattle.level_terms.specs.Reading.{read};
 ghost use Rattle.beta_fragment.specs.Body.{IsLam, IsLamAt};
+ghost use Rattle.beta_fragment.specs.Firm.{IsPlain};
+ghost use Rattle.beta_fragment.specs.Names.{names as own_names};
 
-use beta_fragment::{Names, RigidHead, Whnf, contract, enter, lift, same_term, whnf};
+use beta_fragment::{
+    Names, RigidHead, Whnf, applied_to_level, contract, enter, instantiate, lift, same_term, whnf,
+};
 use level_terms::{Heap, Node, TermId};
 use ref_terms::Sym;
 use std::alloc::{AllocError, Global};
@@ -28,6 +33,7 @@ fn made_sample(heap: &mut Heap) -> Result<Sample, AllocError>
     ensures redex { IfOk result (λ s. IsValid heap.new s.redex.index 0) }
     ensures made { IfOk result (λ s. IsLamAt 0 (node_at heap.new.nodes s.lam.index)) }
     ensures node { IfOk result (λ s. IsLam (node_at heap.new.nodes s.lam.index)) }
+    ensures plain { IfOk result (λ s. IsPlain (read heap.new s.constant.index own_names)) }
 {
     let f = heap.con(Sym(1))?;
     let constant = heap.con(Sym(2))?;
@@ -35,6 +41,7 @@ fn made_sample(heap: &mut Heap) -> Result<Sample, AllocError>
     let body = heap.app(f, [name, name].as_slice())?;
     let lam = heap.lam(0, body)?;
     let redex = heap.app(lam, [constant].as_slice())?;
+    heap.is_sound();
     Ok(Sample {
         constant,
         name,
@@ -92,6 +99,25 @@ fn puts_a_constant_into_a_body(rt: HostRuntime) -> Result<(), Fail> {
     let s = made_sample(&mut heap)?;
     let r = contract(rt.alloc(), &mut heap, s.lam, s.constant, 0)?;
     assert!(rt; is_twice(heap.view(r), s.constant));
+    Ok(())
+}
+
+#[test]
+fn puts_a_constant_for_a_level(rt: HostRuntime) -> Result<(), Fail> {
+    let mut heap = Heap::new(rt.alloc());
+    let s = made_sample(&mut heap)?;
+    let puts = [s.constant];
+    let r = instantiate(rt.alloc(), &mut heap, s.name, 0, 0, &puts)?;
+    assert_eq!(rt; r, s.constant);
+    Ok(())
+}
+
+#[test]
+fn applies_to_a_level(rt: HostRuntime) -> Result<(), Fail> {
+    let mut heap = Heap::new(rt.alloc());
+    let s = made_sample(&mut heap)?;
+    let r = applied_to_level(rt.alloc(), &mut heap, s.lam, 0)?;
+    assert_eq!(rt; r, s.body);
     Ok(())
 }
 

@@ -23,6 +23,15 @@ loop-i-init c = record {
   grows = grows-refl c.args.heap.now [];
 }
 
+pub is_taken-taken-requires : goal.is_taken-taken-requires
+is_taken-taken-requires c =
+    let a = get_or c.args.puts.now (c.loop-i.i - 1) (record { index = 0 }) in
+    let within = c.loop-i.invariant.within in
+    let here = valid-nth c.args.heap.now c.args.to c.args.puts.now (c.loop-i.i - 1) (record { index = 0 }) (omega (arith, within, c.loop-i-test.true)) c.requires.puts in
+    let level = c.in_ok-level.ensures in
+    let deep = valid_deeper c.args.heap.now a.index c.args.to c.in_ok-level.level here (omega (arith, level)) in
+    growth_keeps_valid c.args.heap.now c.loop-i.heap [] [] a.index c.in_ok-level.level c.is_sound.ensures c.loop-i.invariant.grows (valid-below c.args.heap.now a.index c.in_ok-level.level deep) deep
+
 pub put_name-requires-clause-put : goal.put_name-requires-clause-put
 put_name-requires-clause-put c =
     let a = get_or c.args.puts.now (c.loop-i.i - 1) (record { index = 0 }) in

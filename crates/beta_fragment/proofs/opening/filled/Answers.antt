@@ -11,6 +11,9 @@ use Rattle.beta_fragment.proofs.opening.filled.Goals as goal
 pub returns-in_err-inner-clause-grows : goal.returns-in_err-inner-clause-grows
 returns-in_err-inner-clause-grows c = grows-refl c.args.heap.now []
 
+pub is_taken-taken-requires : goal.is_taken-taken-requires
+is_taken-taken-requires c = growth_keeps_valid c.args.heap.now c.opened.new.heap [] [] c.args.arg.index c.args.depth c.is_sound.ensures c.in_ok-named.ensures.grows (valid-below c.args.heap.now c.args.arg.index c.args.depth c.requires.argument) c.requires.argument
+
 pub put_name-requires-clause-put : goal.put_name-requires-clause-put
 put_name-requires-clause-put c = growth_keeps_valid c.args.heap.now c.opened.new.heap [] [] c.args.arg.index c.args.depth c.is_sound.ensures c.in_ok-named.ensures.grows (valid-below c.args.heap.now c.args.arg.index c.args.depth c.requires.argument) c.requires.argument
 

@@ -33,7 +33,7 @@ pub returns-else-depth-level-clause-grows : goal.returns-else-depth-level-clause
 returns-else-depth-level-clause-grows c = grows-refl c.args.heap.now []
 
 pub put_at_app-requires-clause-plain : goal.put_at_app-requires-clause-plain
-put_at_app-requires-clause-plain c = subst (HasPlainHead c.args.heap.now) (c.view.ensures ∙ ap Some c.in-App.is) c.requires.plain
+put_at_app-requires-clause-plain c = λ e. subst (HasPlainHead c.args.heap.now) (c.view.ensures ∙ ap Some c.in-App.is) (c.requires.plain e)
 
 pub returns-in-App-clause-grows : goal.returns-in-App-clause-grows
 returns-in-App-clause-grows c = grows-refl c.args.heap.now []

@@ -1,4 +1,6 @@
-use Rattle.std.proofs.Common.{ℕ, ◌<◌, ◌+◌, ◌++◌, ◌∷◌, [], List, length, map, reverse, sym, subst, arith, refl, ◌∙◌}
+use Rattle.ref_terms.specs.terms.Ready.{ready}
+use Rattle.beta_fragment.specs.Names.{names}
+use Rattle.std.proofs.Common.{ap, ℕ, ◌<◌, ◌+◌, ◌++◌, ◌∷◌, [], List, length, map, reverse, sym, subst, arith, refl, ◌∙◌}
 use Rattle.level_terms.specs.Sound.{AllOlder}
 use Rattle.level_terms.specs.Reading.{read}
 use Rattle.level_terms.specs.declared.node.TermId.{TermId}
@@ -22,8 +24,8 @@ task-there plan nodes done (Visit n b) r = r.0
 task-there plan nodes done (Lam d) r = tt
 task-there plan nodes done (App m) r = tt
 
-pub is_direct-requires : goal.is_direct-requires
-is_direct-requires c =
+pub can_go-requires : goal.can_go-requires
+can_go-requires c =
     let leads = subst (λ (ws : List Task). Leads c.args.heap.now (putting (read c.args.heap.now c.args.put.index) c.args.level) c.args.t.index 0 (c.args.level + 1) (reverse ws) (map (value_of c.loop-task.heap) c.loop-task.done.items)) c.in-Some.ensures.items c.loop-task.invariant.leads in
     task-there (putting (read c.args.heap.now c.args.put.index) c.args.level) (length c.loop-task.heap.nodes) (length c.loop-task.done.items) c.in-Some.task
     (leads-ready c.args.heap.now c.loop-task.heap (putting (read c.args.heap.now c.args.put.index) c.args.level) c.args.t.index 0 (c.args.level + 1) c.in-Some.task (reverse c.pop.new.self.items) c.loop-task.done.items c.loop-task.invariant.grows
@@ -45,6 +47,11 @@ loop-task-init c = record {
 
 pub put_step-requires-clause-put : goal.put_step-requires-clause-put
 put_step-requires-clause-put c = growth_keeps_valid c.args.heap.now c.loop-task.heap [] [] c.args.put.index c.args.level c.is_sound.ensures c.loop-task.invariant.grows (valid-below c.args.heap.now c.args.put.index c.args.level c.requires.put) c.requires.put
+
+pub put_step-requires-clause-taken : goal.put_step-requires-clause-taken
+put_step-requires-clause-taken c = λ e.
+    let same = grown-reads c.args.heap.now c.loop-task.heap c.is_sound.ensures c.loop-task.invariant.grows c.args.put.index (valid-below c.args.heap.now c.args.put.index c.args.level c.requires.put) in
+    ap (λ f. ready (f names)) same ∙ c.requires.taken e
 
 pub put_step-requires-clause-ready : goal.put_step-requires-clause-ready
 put_step-requires-clause-ready c =

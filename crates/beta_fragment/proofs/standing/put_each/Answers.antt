@@ -6,6 +6,7 @@ use Rattle.level_terms.proofs.GrowthLemmas.{grows-refl, grows-trans}
 use Rattle.level_terms.proofs.ValidLemmas.{growth_keeps_valid}
 use Rattle.ref_terms.specs.terms.Term.{Term}
 use Rattle.ref_terms.specs.terms.Apply.{fill}
+use Rattle.ref_terms.specs.terms.Ready.{ready}
 use Rattle.beta_fragment.specs.Names.{names}
 use Rattle.beta_fragment.specs.Moves.{put_name}
 use Rattle.beta_fragment.specs.inside.Standing.{ArePut}
@@ -22,6 +23,10 @@ loop-t-init c = record {
 
 pub put_name-requires-clause-put : goal.put_name-requires-clause-put
 put_name-requires-clause-put c = growth_keeps_valid c.args.heap.now c.loop-t.heap [] [] c.args.put.index c.args.depth c.is_sound.ensures c.loop-t.invariant.grows (valid-below c.args.heap.now c.args.put.index c.args.depth c.requires.put) c.requires.put
+
+pub put_name-requires-clause-taken : goal.put_name-requires-clause-taken
+put_name-requires-clause-taken c = λ _.
+    ap (λ f. ready (f names)) (grown-reads c.args.heap.now c.loop-t.heap c.is_sound.ensures c.loop-t.invariant.grows c.args.put.index (valid-below c.args.heap.now c.args.put.index c.args.depth c.requires.put)) ∙ c.requires.ready
 
 pub put_name-requires-clause-valid : goal.put_name-requires-clause-valid
 put_name-requires-clause-valid c =

@@ -6,6 +6,7 @@ use Rattle.level_terms.proofs.ValidLemmas.{growth_keeps_valid}
 use Rattle.ref_terms.specs.unification.Spine.{apply_all}
 use Rattle.level_terms.specs.declared.node.TermId.{TermId}
 use Rattle.ref_terms.specs.terms.Apply.{fill}
+use Rattle.ref_terms.specs.terms.Ready.{ready}
 use Rattle.beta_fragment.specs.Moves.{put_name}
 use Rattle.beta_fragment.specs.Names.{names}
 use Rattle.beta_fragment.specs.HeadForm.{IsHeadForm, all_read, rigid_head}
@@ -43,6 +44,10 @@ returns-in_ok-list-in-Flex-clause-form c = λ x k.
 
 pub put_name-requires-in-Redex-clause-put : goal.put_name-requires-in-Redex-clause-put
 put_name-requires-in-Redex-clause-put c = growth_keeps_valid c.args.heap.now c.put_each-in-Redex.new.heap [] [] c.args.put.index c.args.depth c.is_sound.ensures c.put_each-in-Redex.ensures.grows (valid-below c.args.heap.now c.args.put.index c.args.depth c.requires.put) c.requires.put
+
+pub put_name-requires-in-Redex-clause-taken : goal.put_name-requires-in-Redex-clause-taken
+put_name-requires-in-Redex-clause-taken c = λ _.
+    ap (λ f. ready (f names)) (grown-reads c.args.heap.now c.put_each-in-Redex.new.heap c.is_sound.ensures c.put_each-in-Redex.ensures.grows c.args.put.index (valid-below c.args.heap.now c.args.put.index c.args.depth c.requires.put)) ∙ c.requires.ready
 
 pub put_name-requires-in-Redex-clause-valid : goal.put_name-requires-in-Redex-clause-valid
 put_name-requires-in-Redex-clause-valid c =

@@ -1,9 +1,10 @@
 use Rattle.std.proofs.Common.{ap}
 use Rattle.level_terms.specs.Graph.{Graph}
-use Rattle.term_rows.proofs.SampleLemmas.{IsSample, sample-made, constant-there, name-there, lam-there, redex-there}
+use Rattle.term_rows.proofs.SampleLemmas.{IsSample, sample-made, constant-there, name-there, lam-there, redex-there, constant-plain}
+use Rattle.term_rows.proofs.reducing.made_sample.Goals.{After-is_sound}
 use Rattle.term_rows.proofs.reducing.made_sample.Goals as goal
 
-made : (c : goal.In_ok-redex) → IsSample c.app-2.new.self.nodes c.in_ok-constant.constant c.in_ok-name.name c.in_ok-lam.lam c.in_ok-redex.redex
+made : (c : After-is_sound) → IsSample c.app-2.new.self.nodes c.in_ok-constant.constant c.in_ok-name.name c.in_ok-lam.lam c.in_ok-redex.redex
 made c =
     let nodes : Graph → _ = λ g. g.nodes in
     sample-made _ _ c.args.heap.now.nodes c.con.new.self.nodes c.con-2.new.self.nodes c.level.new.self.nodes c.app.new.self.nodes c.lam.new.self.nodes c.app-2.new.self.nodes
@@ -23,3 +24,6 @@ returns-clause-lam c = lam-there c.app-2.new.self.depths c.app-2.new.self.nodes 
 
 pub returns-clause-redex : goal.returns-clause-redex
 returns-clause-redex c = redex-there c.app-2.new.self.depths c.app-2.new.self.nodes c.in_ok-constant.constant c.in_ok-name.name c.in_ok-lam.lam c.in_ok-redex.redex (made c)
+
+pub returns-clause-plain : goal.returns-clause-plain
+returns-clause-plain c = constant-plain c.app-2.new.self c.in_ok-constant.constant c.in_ok-name.name c.in_ok-lam.lam c.in_ok-redex.redex c.is_sound.ensures (made c)
