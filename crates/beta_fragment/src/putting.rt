@@ -258,7 +258,17 @@ fn put_at(
             put_at_lam(heap, put, level, node, base, depth, body, work)
         }
         Node::App { head, args } => {
-            put_at_app(heap, put, level, node, base, *head, args.as_slice(), taken, work)
+            put_at_app(
+                heap,
+                put,
+                level,
+                node,
+                base,
+                *head,
+                args.as_slice(),
+                taken,
+                work,
+            )
         }
         Node::Var(v) => {
             let v = *v;
@@ -361,9 +371,7 @@ pub(crate) fn put_node(
         if !can_go(heap, task, taken) {
             return Ok(None);
         }
-        put_step(
-            alloc, heap, put, level, task, taken, &mut work, &mut done,
-        )?;
+        put_step(alloc, heap, put, level, task, taken, &mut work, &mut done)?;
     }
     match done.pop() {
         Some(r) => Ok(Some(r)),
