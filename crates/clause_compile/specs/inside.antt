@@ -4,3 +4,5 @@ pub mod Meaning
 pub mod Compiled
 pub mod Codes
 pub mod Fit
+pub mod RuleCodes
+pub mod Rows
