@@ -2,7 +2,8 @@
 use Rattle.std.proofs.Common.{◌≡◌, ℕ, zero, suc, ◌-◌, ◌≤◌, Bool, true, false, List, [], ◌∷◌, ◌++◌, length, take, drop, map, Some, None, refl, ap, subst, arith, IsTrue, leb-true, ◌&&◌}
 use Rattle.std.specs.List.{slice_get, list_all}
 use Rattle.ref_terms.specs.terms.Term.{Term}
-use Rattle.ref_terms.specs.search.Reserved.{words, word_of, Nonvar_word, Distinct_word}
+use Rattle.ref_terms.specs.search.Reserved.{words, word_of}
+use Rattle.ref_terms.specs.declared.reserved.Reserved.TheVariants.{Nonvar as Nonvar_word, Distinct as Distinct_word}
 use Rattle.ref_terms.specs.search.Formula.{Atom as AtomGoal, word_goal, goal_kind}
 use Rattle.elpi_cli.specs.declared.horn.Atom.{Atom}
 use Rattle.elpi_cli.specs.HornProgram.{atom_term, is_free}

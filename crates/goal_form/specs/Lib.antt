@@ -1,0 +1,3 @@
+pub mod Builtins
+pub mod Forms
+pub mod Kinds
