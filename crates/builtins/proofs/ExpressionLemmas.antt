@@ -1,5 +1,5 @@
 -- The values of expressions, by what stands at their heads.
-use Rattle.std.proofs.Common.{◌≡◌, ℕ, ◌<◌, ◌+◌, ℤ, Bool, true, false, cond, List, [], ◌∷◌, ◌++◌, length, Option, Some, None, refl, sym, ap, ◌∙◌, arith}
+use Rattle.std.proofs.Common.{◌≡◌, ℕ, suc, ◌<◌, ◌+◌, ℤ, Bool, true, false, cond, List, [], ◌∷◌, ◌++◌, length, Option, Some, None, refl, sym, ap, ◌∙◌, arith}
 use Rattle.level_terms.specs.declared.node.TermId.{TermId}
 use Rattle.level_terms.specs.Graph.{Graph}
 use Rattle.level_terms.specs.Reading.{read}
@@ -48,6 +48,11 @@ pub value-rigid : (u : Term) (h : RigidHead) (xs : List Term) → ((c : ℕ) →
 value-rigid u h xs n e =
     let is : shape 0 u ≡ shape.Rigid (rigid_head h) xs = ap (shape 0) e ∙ head-shape (rigid_head h) xs ∙ rigid-shape h xs in
     value-other u (λ c ys k. n c (let q : shape.Rigid (rigid_head h) xs ≡ shape.Rigid (term.Con c) ys = sym is ∙ k in cc))
+
+-- as many terms as nodes
+pub read-length : (g : Graph) (ts : List TermId) → length (all_read g ts) ≡ length ts
+read-length g [] = refl
+read-length g (t ∷ ts) = ap suc (read-length g ts)
 
 -- a constant with another number of arguments than two
 longer : (c : ℕ) (f x y z : Term) (rest : List Term) → head_of f ≡ Some (term.Con c) → value_of (apply_all (App (App (App f x) y) z) rest) ≡ Bad Number

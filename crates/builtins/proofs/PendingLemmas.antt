@@ -1,22 +1,28 @@
 -- Operators that wait for an operand's value.
-use Rattle.std.proofs.Common.{◌≡◌, ℕ, ◌<◌, ◌≤◌, ◌+◌, ℤ, List, [], ◌∷◌, Option, Some, refl, sym, ap, ap₂, ◌∙◌, arith}
+use Rattle.std.proofs.Common.{◌≡◌, ℕ, ◌<◌, ◌≤◌, ◌+◌, ℤ, List, [], ◌∷◌, ◌++◌, reverse, Option, Some, refl, sym, ap, ap₂, ◌∙◌, subst, arith}
+use Rattle.std.proofs.lemmas.List.{reverse-append}
 use Rattle.level_terms.specs.Graph.{Graph}
 use Rattle.level_terms.specs.Growth.{Grows}
 use Rattle.level_terms.specs.Reading.{read}
 use Rattle.level_terms.specs.Sound.{IsSound}
 use Rattle.level_terms.specs.Valid.{IsValid}
 use Rattle.level_terms.proofs.ValidLemmas.{growth_keeps_readings, growth_keeps_valid}
-use Rattle.ref_terms.specs.ending.Measure.{size}
-use Rattle.ref_terms.specs.search.Arithmetic.{value_of, combined}
+use Rattle.ref_terms.specs.ending.Measure.{size, size-positive}
+use Rattle.ref_terms.specs.search.Arithmetic.{value_of, calculated, combined}
 use Rattle.ref_terms.specs.search.Fault.{Judged, Good, Bad}
 use Rattle.ref_terms.specs.declared.fault.Fault.{Fault}
-use Rattle.ref_terms.specs.declared.reserved.Reserved.{Reserved}
+use Rattle.ref_terms.specs.declared.fault.Fault.TheVariants.{Number}
+use Rattle.level_terms.specs.declared.node.TermId.{TermId}
 use Rattle.beta_fragment.specs.Names.{names}
 use Rattle.level_terms.proofs.ReadLemmas.{valid-below}
+use Rattle.beta_fragment.specs.declared.answer.UnifyStop.{UnifyStop}
+use Rattle.beta_fragment.specs.declared.answer.UnifyStop.TheVariants.{Memory}
+use Rattle.builtins.specs.Outcome.{StopsBy}
 use Rattle.builtins.specs.declared.evaluating.Frame.{Frame}
 use Rattle.builtins.specs.declared.evaluating.Frame.TheVariants.{Left, Right}
-use Rattle.builtins.specs.inside.Numbers.{operator_word}
-use Rattle.builtins.specs.inside.Pending.{resumed, AllWait, waiting}
+use Rattle.builtins.specs.declared.number.Operator.{Operator}
+use Rattle.builtins.specs.inside.Numbers.{operator_word, IsOperation}
+use Rattle.builtins.specs.inside.Pending.{resumed, AllWait, waiting, HandsTo, IsHanding, IsEvaluating, left_of}
 
 -- a fault goes through
 pub fault-through : (g : Graph) (fs : List Frame) (e : Fault) → resumed g fs (Bad e) ≡ Bad e
@@ -43,3 +49,75 @@ module _ (g h : Graph) (sound : IsSound g) (grows : Grows g h [] []) (depth : �
   wait-later [] v = tt
   wait-later (Left w b ∷ fs) v = (growth_keeps_valid g h [] [] b.index depth sound grows (valid-below g b.index depth v.0) v.0, wait-later fs v.1)
   wait-later (Right w a ∷ fs) v = wait-later fs v
+
+-- the newest frame
+pub newest-frame : (fs : List Frame) (f : Frame) → reverse (fs ++ f ∷ []) ≡ f ∷ reverse fs
+newest-frame fs f = reverse-append fs (f ∷ [])
+
+-- a value is handed on
+pub handing-first : (fs : List Frame) (z : ℤ) → IsHanding fs fs z z
+handing-first fs z = record { value = λ g. refl; waits = λ g depth v. v; less = λ g. omega arith }
+
+module _ (old now fs : List Frame) (z v : ℤ) (w : Operator) (h : IsHanding old now z v) where
+  pub handing-right : (a r : ℤ) → now ≡ Right w a ∷ fs → calculated (Some (operator_word w)) a v ≡ Good r → IsHanding old fs z r
+  handing-right a r e c = record {
+    value = λ g. h.value g ∙ ap (λ (xs : List Frame). resumed g xs (Good v)) e ∙ ap (resumed g fs) c;
+    waits = λ g depth k. subst (AllWait g depth) e (h.waits g depth k);
+    less = λ g. subst (λ (xs : List Frame). waiting g xs ≤ waiting g old) e (h.less g);
+  }
+
+  pub handing-stopped : (a : ℤ) → now ≡ Right w a ∷ fs → calculated (Some (operator_word w)) a v ≡ Bad Number → (g : Graph) → resumed g old (Good z) ≡ Bad Number
+  handing-stopped a e c g = h.value g ∙ ap (λ (xs : List Frame). resumed g xs (Good v)) e ∙ ap (resumed g fs) c ∙ fault-through g fs Number
+
+  pub handing-left : (b : TermId) → now ≡ Left w b ∷ fs → HandsTo old (Right w v ∷ fs) z b.index
+  handing-left b e = record {
+    value = λ g. h.value g ∙ ap (λ (xs : List Frame). resumed g xs (Good v)) e;
+    waits = λ g depth k. subst (AllWait g depth) e (h.waits g depth k);
+    less = λ g. subst (λ (xs : List Frame). waiting g xs ≤ waiting g old) e (h.less g);
+  }
+
+pub handing-done : (old now : List Frame) (z v : ℤ) → IsHanding old now z v → now ≡ [] → (g : Graph) → resumed g old (Good z) ≡ Good v
+handing-done old now z v h e g = h.value g ∙ ap (λ (xs : List Frame). resumed g xs (Good v)) e
+
+-- want of memory
+pub memory-by : {A : Type 0} (j : Judged A) (stop : UnifyStop) → stop ≡ Memory → StopsBy j stop
+memory-by j stop e = subst (StopsBy j) (sym e) tt
+
+-- evaluation
+pub evaluating-first : (g : Graph) (depth : ℕ) (e : ℕ) (work : List Frame) → work ≡ [] → IsValid g e depth → IsEvaluating (value_of (read g e names)) g depth e (reverse work)
+evaluating-first g depth e work none v = subst (λ (fs : List Frame). IsEvaluating (value_of (read g e names)) g depth e (reverse fs)) (sym none) (record { value = refl; valid = v; waits = tt })
+
+module _ (whole : Judged ℤ) (g h : Graph) (sound : IsSound g) (grows : Grows g h [] []) (depth node : ℕ) (fs : List Frame) (i : IsEvaluating whole g depth node fs) where
+  waiting-same : waiting h fs ≡ waiting g fs
+  waiting-same = waiting-later g h sound grows depth fs i.waits
+
+  -- of an operator's operands
+  module _ (w : Operator) (a b : TermId) (o : IsOperation h depth (read g node names) w a.index b.index) where
+    pub evaluating-operands : IsEvaluating whole h depth a.index (Left w b ∷ fs)
+    evaluating-operands = record {
+      value = i.value ∙ ap (resumed g fs) o.value ∙ sym (resumed-later g h sound grows depth fs (combined (Some (operator_word w)) (value_of (read h a.index names)) (value_of (read h b.index names))) i.waits);
+      valid = o.left;
+      waits = (o.right, wait-later g h sound grows depth fs i.waits);
+    }
+
+    pub operands-fall : left_of h a.index (Left w b ∷ fs) < left_of g node fs
+    operands-fall = let less = o.less in let same = waiting-same in omega (arith, less, same)
+
+  -- of a value that is handed on
+  module _ (z : ℤ) (e : value_of (read g node names) ≡ Good z) where
+    pub value-now : (k : Judged ℤ) → resumed h fs (Good z) ≡ k → whole ≡ k
+    value-now k r = i.value ∙ ap (resumed g fs) e ∙ sym (resumed-later g h sound grows depth fs (Good z) i.waits) ∙ r
+
+    pub evaluating-handed : (fs' : List Frame) (b : ℕ) → HandsTo fs fs' z b → IsEvaluating whole h depth b fs'
+    evaluating-handed fs' b t =
+        let v = t.waits h depth (wait-later g h sound grows depth fs i.waits) in
+        record { value = value-now (resumed h fs' (value_of (read h b names))) (t.value h); valid = v.0; waits = v.1 }
+
+    pub handed-falls : (fs' : List Frame) (b : ℕ) → HandsTo fs fs' z b → left_of h b fs' < left_of g node fs
+    handed-falls fs' b t = let less = t.less h in let same = waiting-same in let some = size-positive (read g node names) in omega (arith, less, same, some)
+
+    pub evaluating-stopped : (stop : UnifyStop) → ((k : Graph) → StopsBy (resumed k fs (Good z)) stop) → StopsBy whole stop
+    evaluating-stopped stop s = subst (λ (j : Judged ℤ). StopsBy j stop) (sym (value-now (resumed h fs (Good z)) refl)) (s h)
+
+  pub evaluating-wrong : (e : Fault) → value_of (read g node names) ≡ Bad e → whole ≡ Bad e
+  evaluating-wrong e w = i.value ∙ ap (resumed g fs) w ∙ fault-through g fs e

@@ -9,6 +9,7 @@ ghost use Rattle.level_terms.specs.Valid.{IsValid};
 ghost use Rattle.level_terms.specs.declared.node.Node.TheVariants.{App as app_node};
 ghost use Rattle.ref_terms.specs.terms.Apply.{apply};
 ghost use Rattle.ref_terms.specs.search.BranchMove.{applied_whole};
+ghost use Rattle.beta_fragment.specs.HeadForm.{IsHeadForm};
 ghost use Rattle.beta_fragment.specs.Names.{names};
 
 use beta_fragment::{Whnf, contract, whnf};
@@ -34,9 +35,44 @@ pub(crate) fn apply_whole(
     heap.is_sound();
     let form = whnf(alloc, heap, f, depth)?;
     heap.is_sound();
+    by_form(alloc, heap, &form, f, a, depth)
+}
+
+/// The same, by the term's form.
+fn by_form(
+    alloc: Global,
+    heap: &mut Heap,
+    form: &Whnf,
+    f: TermId,
+    a: TermId,
+    depth: usize,
+) -> Result<TermId, AllocError>
+    requires form { IsHeadForm heap.old depth (read heap.old f.index names) form.now }
+    requires function { IsValid heap.old f.index depth }
+    requires argument { IsValid heap.old a.index depth }
+    ensures reads { IfOk result (λ r. read heap.new r.index names ≡ applied_whole (read heap.old f.index names) (read heap.old a.index names)) }
+    ensures valid { IfOk result (λ r. IsValid heap.new r.index depth) }
+    ensures variables { heap.new.depths ≡ heap.old.depths }
+    ensures grows { Grows heap.old heap.new [] [] }
+{
+    heap.is_sound();
     match form {
-        Whnf::Lam(lam) => contract(alloc, heap, lam, a, depth),
-        _ => with_argument(alloc, heap, f, a, depth),
+        Whnf::Lam(lam) => {
+            let r = contract(alloc, heap, *lam, a, depth)?;
+            Ok(r)
+        }
+        Whnf::Rigid(_, _) => {
+            let r = with_argument(alloc, heap, f, a, depth)?;
+            Ok(r)
+        }
+        Whnf::Flex(_, _) => {
+            let r = with_argument(alloc, heap, f, a, depth)?;
+            Ok(r)
+        }
+        Whnf::Redex(_, _) => {
+            let r = with_argument(alloc, heap, f, a, depth)?;
+            Ok(r)
+        }
     }
 }
 

@@ -56,6 +56,7 @@ pub(crate) fn evaluate(
     let mut work = Vec::new(alloc);
     let mut node = e;
     loop {
+        heap.is_sound();
         match look(alloc, heap, node, depth)? {
             Expression::Value(z) => match finish(&mut work, z)? {
                 Next::Operand(b) => node = b,
@@ -89,6 +90,13 @@ fn put(work: &mut Vec<Frame>, frame: Frame) -> Result<(), AllocError>
     Ok(())
 }
 
+/// The frame of a right operand, after the left one's value.
+fn right_frame(operator: Operator, value: i64) -> Frame
+    ensures { result ≡ Frame.Right operator value }
+{
+    Frame::Right(operator, value)
+}
+
 /// Hands a value to the operators that wait for it, the newest first, up to one whose right operand
 /// isn't evaluated yet.
 fn finish(work: &mut Vec<Frame>, z: i64) -> Result<Next, UnifyStop>
@@ -99,7 +107,7 @@ fn finish(work: &mut Vec<Frame>, z: i64) -> Result<Next, UnifyStop>
     while let Some(frame) = work.pop() {
         match frame {
             Frame::Left(operator, b) => {
-                put(work, Frame::Right(operator, value))?;
+                put(work, right_frame(operator, value))?;
                 return Ok(Next::Operand(b));
             }
             Frame::Right(operator, left) => match calculate(operator, left, value) {

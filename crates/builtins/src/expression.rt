@@ -52,9 +52,16 @@ fn numeral(head: RigidHead, count: usize) -> Expression
     ensures { (g : Graph) (depth : ℕ) (u : Term) (xs : List Term) → length xs ≡ count → u ≡ apply_all (At (rigid_head head)) xs → IsExpression g depth u result }
 {
     match number_of_head(head, count) {
-        Ok(z) => Expression::Value(z),
+        Ok(z) => integer_value(z),
         Err(e) => Expression::Wrong(e),
     }
+}
+
+/// An integer.
+fn integer_value(z: i64) -> Expression
+    ensures { result ≡ Expression.Value z }
+{
+    Expression::Value(z)
 }
 
 /// What is seen of an expression that is a constant with arguments.

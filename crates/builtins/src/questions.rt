@@ -1,12 +1,16 @@
 //! Built-ins that are questions.
 
-ghost use Rattle.std.specs.Prelude.{◌≡◌, [], IfOk, IfErr};
+ghost use Rattle.std.specs.Prelude.{◌≡◌, ℕ, List, [], length, IfOk, IfErr};
+ghost use Rattle.level_terms.specs.Graph.{Graph};
 ghost use Rattle.level_terms.specs.Growth.{Grows};
 ghost use Rattle.level_terms.specs.Reading.{read};
 ghost use Rattle.level_terms.specs.Valid.{IsValid};
+ghost use Rattle.ref_terms.specs.terms.Term.{Term, At};
+ghost use Rattle.ref_terms.specs.unification.Spine.{apply_all};
 ghost use Rattle.ref_terms.specs.search.Arithmetic.{operand, less};
 ghost use Rattle.ref_terms.specs.search.Fault.{Good};
 ghost use Rattle.ref_terms.specs.search.Value.{term_eq, is_flex, is_bare_name};
+ghost use Rattle.beta_fragment.specs.HeadForm.{IsHeadForm, rigid_head};
 ghost use Rattle.beta_fragment.specs.Names.{names};
 ghost use Rattle.builtins.specs.Outcome.{StopsBy};
 
@@ -29,7 +33,44 @@ pub(crate) fn is_same(
     ensures variables { heap.new.depths ≡ heap.old.depths }
     ensures grows { Grows heap.old heap.new [] [] }
 {
-    same_term(alloc, heap, s, t, depth)
+    let answer = same_term(alloc, heap, s, t, depth)?;
+    Ok(answer)
+}
+
+/// Whether a variable heads a term of this form.
+fn is_flexible(form: Whnf) -> bool
+    ensures { (g : Graph) (depth : ℕ) (u : Term) → IsHeadForm g depth u form → result ≡ is_flex u }
+{
+    match form {
+        Whnf::Flex(_, _) => true,
+        Whnf::Lam(_) => false,
+        Whnf::Rigid(_, _) => false,
+        Whnf::Redex(_, _) => false,
+    }
+}
+
+/// Whether a term of this form is a name without arguments.
+fn is_name_alone(form: Whnf) -> bool
+    ensures { (g : Graph) (depth : ℕ) (u : Term) → IsHeadForm g depth u form → result ≡ is_bare_name u }
+{
+    match form {
+        Whnf::Rigid(head, args) => is_level_alone(head, args.len()),
+        Whnf::Lam(_) => false,
+        Whnf::Flex(_, _) => false,
+        Whnf::Redex(_, _) => false,
+    }
+}
+
+/// Whether a head with so many arguments is a name without any.
+fn is_level_alone(head: RigidHead, count: usize) -> bool
+    ensures { (u : Term) (xs : List Term) → length xs ≡ count → u ≡ apply_all (At (rigid_head head)) xs → result ≡ is_bare_name u }
+{
+    match head {
+        RigidHead::Level(_) => count == 0,
+        RigidHead::Con(_) => false,
+        RigidHead::Int(_) => false,
+        RigidHead::Str(_) => false,
+    }
 }
 
 /// Whether a variable heads the term. Costs a look at its head.
@@ -44,10 +85,8 @@ pub(crate) fn is_variable(
     ensures variables { heap.new.depths ≡ heap.old.depths }
     ensures grows { Grows heap.old heap.new [] [] }
 {
-    match whnf(alloc, heap, t, depth)? {
-        Whnf::Flex(_, _) => Ok(true),
-        _ => Ok(false),
-    }
+    let form = whnf(alloc, heap, t, depth)?;
+    Ok(is_flexible(form))
 }
 
 /// Whether the term is a name without arguments. Costs a look at its head.
@@ -62,10 +101,8 @@ pub(crate) fn is_name(
     ensures variables { heap.new.depths ≡ heap.old.depths }
     ensures grows { Grows heap.old heap.new [] [] }
 {
-    match whnf(alloc, heap, t, depth)? {
-        Whnf::Rigid(RigidHead::Level(_), args) => Ok(args.len() == 0),
-        _ => Ok(false),
-    }
+    let form = whnf(alloc, heap, t, depth)?;
+    Ok(is_name_alone(form))
 }
 
 /// The integer that the term is. Takes no memory where it is one.

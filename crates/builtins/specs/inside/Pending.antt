@@ -40,6 +40,22 @@ pub record HandsTo (old new : List Frame) (z : ℤ) (b : ℕ) : Type 0 where
   pub waits : (g : Graph) (depth : ℕ) → AllWait g depth old → IsValid g b depth × AllWait g depth new
   pub less : (g : Graph) → size (read g b names) + waiting g new ≤ waiting g old
 
+-- a value is handed on: so far it has come to this one
+pub record IsHanding (old now : List Frame) (z v : ℤ) : Type 0 where
+  pub value : (g : Graph) → resumed g old (Good z) ≡ resumed g now (Good v)
+  pub waits : (g : Graph) (depth : ℕ) → AllWait g depth old → AllWait g depth now
+  pub less : (g : Graph) → waiting g now ≤ waiting g old
+
+-- a node is evaluated next, for a whole of this value
+pub record IsEvaluating (whole : Judged ℤ) (g : Graph) (depth node : ℕ) (fs : List Frame) : Type 0 where
+  pub value : whole ≡ resumed g fs (value_of (read g node names))
+  pub valid : IsValid g node depth
+  pub waits : AllWait g depth fs
+
+-- how much there is left of it
+abbrev pub left_of : Graph → (node : ℕ) → List Frame → ℕ
+left_of g node fs = size (read g node names) + waiting g fs
+
 -- so, or the whole has this value; frames oldest first
 abbrev pub IsNext : (old new : List Frame) → ℤ → Next → Type 0
 IsNext old new z (Operand b) = HandsTo (reverse old) (reverse new) z b.index
