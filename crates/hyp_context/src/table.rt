@@ -94,7 +94,11 @@ fn half_of(lists: &Lists, number: usize) -> &Table
     requires { 0 < number }
     ensures { (n : ℕ) → same_digit n number ≡ true → found_in result.now (halved n) ≡ found_at lists.now n }
 {
-    if number % 2 == 1 { &lists.odd } else { &lists.even }
+    if number % 2 == 1 {
+        &lists.odd
+    } else {
+        &lists.even
+    }
 }
 
 impl Lists {
