@@ -1,0 +1,15 @@
+-- What contracts see of a context.
+use Rattle.std.specs.Prelude.{◌≡◌, List, length}
+use Rattle.hyp_clause.specs.declared.hyp.Hyp.{Hyp}
+use Rattle.hyp_context.specs.declared.context.Context.TheInside.{Inside}
+use Rattle.hyp_context.specs.inside.Items.{items_of}
+use Rattle.hyp_context.specs.inside.Found.{IsTable}
+
+-- all assumptions
+abbrev pub hyps_of : Inside → List Hyp
+hyps_of c = items_of c.all
+
+-- they are counted, and the table is of them
+pub record IsKept (c : Inside) : Type 0 where
+  pub count : c.count ≡ length (hyps_of c)
+  pub table : IsTable c.by_pred (hyps_of c)
