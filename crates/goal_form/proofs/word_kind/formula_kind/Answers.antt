@@ -26,6 +26,8 @@ returns-in-len2 c = λ g depth v.
 
 pub returns-in_default : goal.returns-in_default
 returns-in_default c = λ g depth v.
-    let w = three-or_more c.args.args.now c.in_default.len_at_least in
-    (ap Wrong c.misfit.ensures ∙ misfit-of_more c.args.word (read g w.0.index names) (read g w.1.index names) (read g w.2.index names) (all_read g w.3) c.requires
-    ∙ ap (λ (xs : List TermId). reserved_goal c.args.word (all_read g xs)) (sym w.4), tt)
+    let w = three-or_more c.args.args.now c.in_default.len_at_least in (
+      ap Wrong c.misfit.ensures ∙ misfit-of_more c.args.word (read g w.0.index names) (read g w.1.index names) (read g w.2.index names) (all_read g w.3) c.requires
+          ∙ ap (λ (xs : List TermId). reserved_goal c.args.word (all_read g xs)) (sym w.4),
+      tt,
+    )
