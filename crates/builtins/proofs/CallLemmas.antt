@@ -1,5 +1,5 @@
 -- What calls of built-ins answer.
-use Rattle.std.proofs.Common.{◌≡◌, ℕ, ◌<◌, ◌≤◌, ℤ, Bool, true, false, MatchBool, List, [], ◌∷◌, length, Option, refl, sym, ap, ◌∙◌, subst, arith}
+use Rattle.std.proofs.Common.{◌≡◌, ℕ, ◌<◌, ◌≤◌, ℤ, Bool, true, false, MatchBool, List, [], ◌∷◌, length, Option, Result, Ok, Err, IfOk, IfErr, refl, sym, ap, ◌∙◌, subst, arith}
 use Rattle.level_terms.specs.Graph.{Graph}
 use Rattle.level_terms.specs.Growth.{Grows}
 use Rattle.level_terms.specs.Reading.{read}
@@ -29,6 +29,15 @@ use Rattle.builtins.specs.Outcome.{Outcome, Equates, Tells, Prints, Breaks, outc
 -- where nodes are added alone
 pub stays-grown : (g h : Graph) → IsSound g → h.depths ≡ g.depths → Grows g h [] [] → Stays g h
 stays-grown g h sound vs grows = record { readings = λ t env k. growth_keeps_readings g h t env sound grows k; variables = vs; grows = grows }
+
+-- an answer, whatever it is
+pub ok-each : {A E : Type 0} (P Q : A → Type 0) (r : Result A E) → ((x : A) → P x → Q x) → IfOk r P → IfOk r Q
+ok-each P Q (Ok x) f h = f x h
+ok-each P Q (Err e) f h = tt
+
+pub err-each : {A E : Type 0} (P Q : E → Type 0) (r : Result A E) → ((e : E) → P e → Q e) → IfErr r P → IfErr r Q
+err-each P Q (Ok x) f h = tt
+err-each P Q (Err e) f h = f e h
 
 -- want of memory
 pub memory-stops : (g : Graph) (depth : ℕ) (o : Outcome) → Stops g depth o Memory

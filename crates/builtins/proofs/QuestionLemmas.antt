@@ -1,5 +1,5 @@
 -- Questions about terms.
-use Rattle.std.proofs.Common.{◌≡◌, ℕ, ℤ, Bool, true, false, ◌&&◌, ◌↔◌, IsTrue, nat_eq, List, [], ◌∷◌, length, refl, sym, ap, ap₂, ◌∙◌, subst, eqb-true, eq-eqb, arith}
+use Rattle.std.proofs.Common.{◌≡◌, ℕ, ℤ, Bool, true, false, ◌&&◌, ◌↔◌, IsTrue, nat_eq, List, [], ◌∷◌, length, refl, sym, ap, ap₂, ◌∙◌, subst, eqb-true, eq-eqb, ne_eqb, arith}
 use Rattle.std.specs.Ordering.{int_eq}
 use Rattle.std.proofs.lemmas.Bool.Decides.{Decides-int_eq}
 use Rattle.level_terms.specs.Graph.{Graph}
@@ -103,11 +103,11 @@ term-true (App f a) (At k) e = absurd (let q : false ≡ true = e in cc)
 
 -- equal terms
 pub same-truth : (s t : Term) (b : Bool) → (IsTrue b ↔ (s ≡ t)) → b ≡ term_eq s t
-same-truth s t true w = sym (subst (λ u. term_eq s u ≡ true) (w.0 tt) (term-same s))
+same-truth s t true w = sym (subst (λ u. term_eq s u ≡ true) (w.0 refl) (term-same s))
 same-truth s t false w = go (term_eq s t) refl
   where
     go : (b : Bool) → term_eq s t ≡ b → false ≡ term_eq s t
-    go true e = absurd (w.1 (term-true s t e))
+    go true e = absurd (let q : false ≡ true = w.1 (term-true s t e) in cc)
     go false e = sym e
 
 -- a variable at the head
@@ -142,7 +142,7 @@ head-no_name u h xs n e =
 
 pub level-alone : (u : Term) (l : ℕ) (xs : List Term) (n : ℕ) → length xs ≡ n → u ≡ apply_all (At (term.Name l)) xs → nat_eq n 0 ≡ is_bare_name u
 level-alone u l [] n k e = subst (λ (m : ℕ). nat_eq m 0 ≡ is_bare_name u) k (sym (ap is_bare_name e))
-level-alone u l (x ∷ xs) n k e = subst (λ (m : ℕ). nat_eq m 0 ≡ is_bare_name u) k (head-no_name u (Level l) (x ∷ xs) (λ m is z. absurd (omega (arith, z))) e)
+level-alone u l (x ∷ xs) n k e = subst (λ (m : ℕ). nat_eq m 0 ≡ is_bare_name u) k (ne_eqb (length (x ∷ xs)) 0 (omega arith) ∙ head-no_name u (Level l) (x ∷ xs) (λ m is z. absurd (omega (arith, z))) e)
 
 -- a comparison
 pub less-right : (a b : Term) (l : ℤ) (stop : UnifyStop) → operand a ≡ Good l → StopsBy (operand b) stop → StopsBy (less a b) stop

@@ -3,10 +3,15 @@
 //! Each comes to a unification, a truth, a printed text or a fault, by what its arguments read as.
 #![tactic(auto)]
 
-pub mod applying;
-pub mod evaluating;
+mod applying;
+mod calling;
+mod evaluating;
+mod events;
 mod expression;
 mod number;
-pub mod questions;
+mod printing;
+mod questions;
 
+pub use calling::{call_builtin, law_outcomes_move};
+pub use events::Events;
 pub use goal_form::Builtin;
