@@ -1,0 +1,9 @@
+pub mod ReadAtLemmas
+pub mod NodeLemmas
+pub mod FormLemmas
+pub mod HypLemmas
+pub mod PartLemmas
+pub mod WaitLemmas
+pub mod LawLemmas
+pub mod InstanceLemmas
+pub mod OkLemmas

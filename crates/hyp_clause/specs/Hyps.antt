@@ -1,25 +1,15 @@
 -- Hypothetical clauses in a heap.
-use Rattle.std.specs.Prelude.{◌≡◌, ℕ, ◌+◌, List, [], ◌∷◌, map}
-use Rattle.ref_terms.specs.terms.Term.{Term, At, Name}
+use Rattle.std.specs.Prelude.{◌≡◌, ◌+◌, List, [], ◌∷◌}
 use Rattle.ref_terms.specs.search.Assumption.{Assumption}
-use Rattle.level_terms.specs.declared.node.TermId.{TermId}
+use Rattle.ref_terms.specs.search.Fault.{Judged, Bad}
 use Rattle.level_terms.specs.Graph.{Graph}
 use Rattle.level_terms.specs.Reading.{read}
 use Rattle.level_terms.specs.Valid.{IsValid}
+use Rattle.beta_fragment.specs.Names.{names}
+use Rattle.beta_fragment.specs.HeadForm.{all_read, AllValidAt}
 use Rattle.hyp_clause.specs.declared.hyp.Hyp.{Hyp}
-
--- each level is the name of its number
-abbrev pub names : ℕ → Term
-names i = At (Name i)
-
--- what nodes read as
-abbrev pub all_read : Graph → List TermId → List Term
-all_read g ts = map (λ t. read g t.index names) ts
-
--- nodes are valid at a depth
-abbrev pub AllValidAt : Graph → List TermId → ℕ → Type 0
-AllValidAt g [] depth = Unit {0}
-AllValidAt g (t ∷ ts) depth = IsValid g t.index depth × AllValidAt g ts depth
+use Rattle.hyp_clause.specs.declared.hyp.HypStop.{HypStop}
+use Rattle.hyp_clause.specs.declared.hyp.HypStop.TheVariants.{Fault, Memory}
 
 -- what a hypothetical clause reads as: its parameters are the names from its depth on
 abbrev pub assumption_in : Graph → Hyp → Assumption
@@ -42,3 +32,8 @@ pub record IsHypValid (g : Graph) (h : Hyp) : Type 0 where
 abbrev pub AllHypsValid : Graph → List Hyp → Type 0
 AllHypsValid g [] = Unit {0}
 AllHypsValid g (h ∷ hs) = IsHypValid g h × AllHypsValid g hs
+
+-- the fault that decides
+abbrev pub IsHypFault : HypStop → Judged (List Assumption) → Type 0
+IsHypFault (Fault f) j = j ≡ Bad f
+IsHypFault Memory j = Unit {0}

@@ -1,6 +1,7 @@
 //! Contexts.
 
-ghost use Rattle.std.specs.Prelude.{◌≡◌, ◌∷◌, ◌++◌, [], ℕ, length, filter, nat_eq, cond, IfOk, IfSome, IfNone};
+ghost use Rattle.std.specs.Prelude.{◌≡◌, ◌≢◌, ◌∷◌, ◌++◌, [], length, IfOk, IfSome, IfNone, MatchOption};
+ghost use Rattle.hyp_context.specs.Contexts.{hyps_for};
 
 use crate::chain::Chain;
 use crate::table::Table;
@@ -108,7 +109,7 @@ impl Context {
     /// Those of a predicate; no other is looked at. It takes the time of the binary digits of the
     /// predicate's number, and no memory.
     pub fn for_pred(&self, pred: Sym) -> HypIter<'_>
-        ensures { result ≡ filter (λ h. nat_eq pred.0 h.pred.0) self.now }
+        ensures { result ≡ hyps_for pred.0 self.now }
     {
         HypIter {
             rest: self.by_pred.find(pred.0),
@@ -134,6 +135,21 @@ impl<'a> Model for HypIter<'a> {
 }
 
 impl<'a> HypIter<'a> {
+    /// What is left, kept apart, in constant time and without new memory; none exactly where none is
+    /// left. Answers `AllocError` where so many copies are there that they can't be counted.
+    pub fn tail(&self) -> Result<Option<HypTail>, AllocError>
+        ensures { IfOk result (λ o. MatchOption o (self.now ≡ []) (λ t. (t ≡ self.now) × (t ≢ []))) }
+    {
+        match self.rest {
+            None => Ok(None),
+            Some(Chain::End) => Ok(None),
+            Some(chain) => {
+                let chain = chain.copy()?;
+                Ok(Some(HypTail { chain }))
+            }
+        }
+    }
+
     /// The next one; none exactly where none is left. Takes constant time, and no memory.
     pub fn next(&mut self) -> Option<&'a Hyp>
         ensures some { IfSome result (λ h. self.old ≡ h.now ∷ self.new) }
@@ -147,6 +163,34 @@ impl<'a> HypIter<'a> {
                 self.rest = Some(&entry.older);
                 Some(&entry.hyp)
             }
+        }
+    }
+}
+
+/// Assumptions that are kept to be gone through later. Contracts see their list.
+#[derive(Drop)]
+pub struct HypTail {
+    chain: Chain,
+}
+
+impl Model for HypTail {
+    ghost use Rattle.std.specs.Prelude.{List};
+    ghost use Rattle.hyp_clause.specs.declared.hyp.Hyp.{Hyp};
+
+    ghost Value = { List Hyp };
+
+    ghost use Rattle.hyp_context.specs.inside.Items.{items_of};
+
+    ghost view = { λ t. items_of t.chain };
+}
+
+impl HypTail {
+    /// All of them. Takes no memory.
+    pub fn iter(&self) -> HypIter<'_>
+        ensures { result ≡ self.now }
+    {
+        HypIter {
+            rest: Some(&self.chain),
         }
     }
 }

@@ -7,9 +7,10 @@
 
 mod chain;
 mod context;
+pub mod laws;
 mod table;
 
-pub use context::{Context, HypIter};
+pub use context::{Context, HypIter, HypTail};
 
 #[cfg(test)]
 mod tests;

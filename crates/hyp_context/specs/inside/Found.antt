@@ -1,8 +1,9 @@
 -- What is found in a table.
-use Rattle.std.specs.Prelude.{◌≡◌, ℕ, ◌-◌, ◌/◌, ◌%◌, ◌&&◌, Bool, not, cond, nat_eq, filter, List, [], ◌∷◌}
+use Rattle.std.specs.Prelude.{◌≡◌, ℕ, ◌-◌, ◌/◌, ◌%◌, ◌&&◌, Bool, not, cond, nat_eq, List, [], ◌∷◌}
 use Rattle.hyp_clause.specs.declared.hyp.Hyp.{Hyp}
 use Rattle.hyp_context.specs.declared.table.Table.{Table, Empty, Fork'}
 use Rattle.hyp_context.specs.declared.table.Lists.{Lists}
+use Rattle.hyp_context.specs.Contexts.{hyps_for}
 use Rattle.hyp_context.specs.inside.Items.{items_of}
 
 -- the number in the table of those with the same last digit
@@ -32,4 +33,4 @@ HasOneMore old k h new = (n : ℕ) → found_in new n ≡ cond (nat_eq n k) (h �
 
 -- each predicate's list has its assumptions
 abbrev pub IsTable : Table → List Hyp → Type 0
-IsTable t hyps = (p : ℕ) → found_in t p ≡ filter (λ h. nat_eq p h.pred.0) hyps
+IsTable t hyps = (p : ℕ) → found_in t p ≡ hyps_for p hyps
