@@ -31,6 +31,7 @@ line-parts table g t depth v =
 pub record Printing (table : List (List ℕ)) (depth : ℕ) (first : Graph) (ps : List Part) (old : Page) (g : Graph) (work : List Piece) (now : Page) : Type 0 where
   pub prints : Prints old ps now (work_parts table depth g work)
   pub pieces : ArePieces depth g work
+  pub variables : g.depths ≡ first.depths
   pub grows : Grows first g [] []
 
 -- all is done
@@ -51,16 +52,18 @@ started table depth g t work p e v =
     record {
       prints = prints-none p (work_parts table depth g (Top t depth 0 ∷ []));
       pieces = ((record { valid = v; deep = omega arith }, tt), tt);
+      variables = refl;
       grows = grows-refl g [];
     }
 
 pub goes_on : (table : List (List ℕ)) (depth : ℕ) (first : Graph) (ps : List Part) (old : Page) (g h : Graph) (work rest : List Piece) (piece : Piece) (now new : Page) (left : List Piece) → work ≡ rest ++ piece ∷ []
-    → Printing table depth first ps old g (reverse work) now → Leaves table depth now (work_parts table depth g (piece ∷ reverse rest)) (work_size depth g (piece ∷ reverse rest)) h new left → Grows g h [] []
+    → Printing table depth first ps old g (reverse work) now → Leaves table depth now (work_parts table depth g (piece ∷ reverse rest)) (work_size depth g (piece ∷ reverse rest)) h new left → h.depths ≡ g.depths → Grows g h [] []
     → Printing table depth first ps old h left new
-goes_on table depth first ps old g h work rest piece now new left e w l gr = record {
+goes_on table depth first ps old g h work rest piece now new left e w l vs gr = record {
   prints = prints-trans old now new ps (work_parts table depth g (piece ∷ reverse rest)) (work_parts table depth h left)
       (subst (λ (ws : List Piece). Prints old ps now (work_parts table depth g ws)) (pushed-one rest work piece e) w.prints) l.prints;
   pieces = l.pieces;
+  variables = vs ∙ w.variables;
   grows = grows-trans first g h [] [] [] w.grows gr;
 }
 

@@ -412,3 +412,25 @@ infix-stopped table base g c rest t seen new s = (
         ∙ ap (λ (u : List ℕ). 32 ∷ u) (append_assoc (symbol table c.0) (32 ∷ []) (numbered seen (work_parts table base g rest))),
   ),
 )
+
+-- a space is written before an argument
+module _ (table : List (List ℕ)) (base : ℕ) (g : Graph) (t : TermId) (depth : ℕ) (rest : List Piece) (piece : Piece) (is : piece ≡ Argument t depth) (out out' seen : List ℕ) (spaced : out' ≡ out ++ 32 ∷ []) where
+  pub argument-printed : (h : Graph) (new : Page) (left : List Piece) → LeavesTerm table base text.inner g (read g t.index names) depth rest (page out' seen) h new left
+      → Leaves table base (page out seen) (work_parts table base g (piece ∷ rest)) (work_size base g (piece ∷ rest)) h new left
+  argument-printed h new left w =
+      let spaced' : LeavesTerm table base text.inner g (read g t.index names) depth rest (page (out ++ 32 ∷ []) seen) h new left =
+      subst (λ (x : List ℕ). LeavesTerm table base text.inner g (read g t.index names) depth rest (page x seen) h new left) spaced w in
+      let all : Leaves table base (page out seen) (work_parts table base g (Argument t depth ∷ rest)) (work_size base g (Argument t depth ∷ rest)) h new left = record {
+        prints = prints-trans (page out seen) (page (out ++ 32 ∷ []) seen) new _ _ _
+            (prints-bytes out seen (32 ∷ []) (node_parts table base g t depth text.inner ++ work_parts table base g rest)) spaced'.prints;
+        pieces = spaced'.pieces;
+        falls = let falls = spaced'.falls in omega (arith, falls);
+      } in
+      subst (λ (p : Piece). Leaves table base (page out seen) (work_parts table base g (p ∷ rest)) (work_size base g (p ∷ rest)) h new left) (sym is) all
+
+  pub argument-stopped : (new : List ℕ) → StopsTerm table base text.inner g (read g t.index names) depth rest (page out' seen) new → Stops (page out seen) (work_parts table base g (piece ∷ rest)) new
+  argument-stopped new w =
+      subst (λ (p : Piece). Stops (page out seen) (work_parts table base g (p ∷ rest)) new) (sym is)
+      (stops-later (page out seen) (page (out ++ 32 ∷ []) seen) _ (node_parts table base g t depth text.inner ++ work_parts table base g rest) new
+      (prints-bytes out seen (32 ∷ []) (node_parts table base g t depth text.inner ++ work_parts table base g rest))
+      (subst (λ (x : List ℕ). StopsTerm table base text.inner g (read g t.index names) depth rest (page x seen) new) spaced w))

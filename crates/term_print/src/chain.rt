@@ -54,6 +54,7 @@ fn nth_below(heap: &Heap, lam: TermId, count: usize) -> Option<TermId>
 fn stays_at(alloc: Global, heap: &mut Heap, node: TermId, depth: usize) -> Result<bool, AllocError>
     requires { IsValid heap.old node.index depth }
     ensures stays { IfOk result (λ r. IsTrue r → IsAbstraction (read heap.old node.index names)) }
+    ensures variables { heap.new.depths ≡ heap.old.depths }
     ensures grows { Grows heap.old heap.new [] [] }
 {
     let form = whnf(alloc, heap, node, depth)?;
@@ -69,6 +70,7 @@ fn stays(alloc: Global, heap: &mut Heap, node: TermId) -> Result<bool, AllocErro
     requires valid { (made : ℕ) (b : Id) → node_at heap.old.nodes node.index ≡ Some (lam_node made b) → IsValid heap.old node.index made }
     ensures node { IfOk result (λ r. IsTrue r → IsLam (node_at heap.old.nodes node.index)) }
     ensures stays { IfOk result (λ r. IsTrue r → IsAbstraction (read heap.old node.index names)) }
+    ensures variables { heap.new.depths ≡ heap.old.depths }
     ensures grows { Grows heap.old heap.new [] [] }
 {
     match heap.view(node) {
@@ -90,6 +92,7 @@ fn are_kept(
 ) -> Result<bool, AllocError>
     requires { IsValid heap.old lam.index depth }
     ensures kept { IfOk result (λ r. IsTrue r → BodyIsKept heap.old lam count) }
+    ensures variables { heap.new.depths ≡ heap.old.depths }
     ensures grows { Grows heap.old heap.new [] [] }
 {
     heap.is_sound();
@@ -109,6 +112,7 @@ pub(crate) fn kept_below(
 ) -> Result<usize, AllocError>
     requires { IsValid heap.old lam.index depth }
     ensures kept { IfOk result (λ count. BodyIsKept heap.new lam count) }
+    ensures variables { heap.new.depths ≡ heap.old.depths }
     ensures grows { Grows heap.old heap.new [] [] }
 {
     heap.is_sound();

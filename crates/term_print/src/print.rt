@@ -49,6 +49,7 @@ pub fn print_term(
     ensures text { OnOk result (out.new ≡ out.old ++ numbered namer.old (term_line symbols.now (read heap.old t.index names))) }
     ensures seen { OnOk result (namer.new ≡ seen_after namer.old (term_line symbols.now (read heap.old t.index names))) }
     ensures front { OnErr result (GainsFront (numbered namer.old (term_line symbols.now (read heap.old t.index names))) out.old out.new) }
+    ensures variables { heap.new.depths ≡ heap.old.depths }
     ensures grows { Grows heap.old heap.new [] [] }
 {
     heap.is_sound();

@@ -67,6 +67,7 @@ fn print_more(
     requires { AllValidAt heap.old terms.now depth }
     ensures prints { OnOk result (Prints (page out.old namer.old) (more_lines symbols.now (all_read heap.old terms.now)) (page out.new namer.new) []) }
     ensures stops { OnErr result (Stops (page out.old namer.old) (more_lines symbols.now (all_read heap.old terms.now)) out.new) }
+    ensures variables { heap.new.depths ≡ heap.old.depths }
     ensures grows { Grows heap.old heap.new [] [] }
 {
     heap.is_sound();
@@ -90,6 +91,7 @@ fn print_all(
     requires { AllValidAt heap.old terms.now depth }
     ensures prints { OnOk result (Prints (page out.old namer.old) (all_lines symbols.now (all_read heap.old terms.now)) (page out.new namer.new) []) }
     ensures stops { OnErr result (Stops (page out.old namer.old) (all_lines symbols.now (all_read heap.old terms.now)) out.new) }
+    ensures variables { heap.new.depths ≡ heap.old.depths }
     ensures grows { Grows heap.old heap.new [] [] }
 {
     heap.is_sound();
@@ -115,6 +117,7 @@ fn print_line(
     requires goal { IsValid heap.old goal.index depth }
     ensures prints { OnOk result (Prints (page out.old namer.old) (sequent_line symbols.now depth (all_read heap.old hyps.now) (read heap.old goal.index names)) (page out.new namer.new) []) }
     ensures stops { OnErr result (Stops (page out.old namer.old) (sequent_line symbols.now depth (all_read heap.old hyps.now) (read heap.old goal.index names)) out.new) }
+    ensures variables { heap.new.depths ≡ heap.old.depths }
     ensures grows { Grows heap.old heap.new [] [] }
 {
     heap.is_sound();
@@ -144,6 +147,7 @@ pub fn print_sequent(
     ensures text { OnOk result ((c : Constraint) → IsSequent heap.old depth hyps.now goal c → out.new ≡ out.old ++ numbered namer.old (sequent_parts symbols.now c)) }
     ensures seen { OnOk result ((c : Constraint) → IsSequent heap.old depth hyps.now goal c → namer.new ≡ seen_after namer.old (sequent_parts symbols.now c)) }
     ensures front { OnErr result ((c : Constraint) → IsSequent heap.old depth hyps.now goal c → GainsFront (numbered namer.old (sequent_parts symbols.now c)) out.old out.new) }
+    ensures variables { heap.new.depths ≡ heap.old.depths }
     ensures grows { Grows heap.old heap.new [] [] }
 {
     print_line(alloc, heap, symbols, hyps, goal, depth, namer, out)

@@ -98,6 +98,7 @@ fn body_at(alloc: Global, heap: &mut Heap, lam: TermId, depth: usize) -> Result<
     requires room { depth < 2 ^ 64 - 1 }
     ensures reads { IfOk result (λ r. (b : Term) → read heap.old lam.index names ≡ lam_term b → read heap.new r.index names ≡ sub (first (names depth)) b) }
     ensures valid { IfOk result (λ r. IsValid heap.new r.index (depth + 1)) }
+    ensures variables { heap.new.depths ≡ heap.old.depths }
     ensures grows { Grows heap.old heap.new [] [] }
 {
     heap.is_sound();
@@ -120,6 +121,7 @@ fn body_copied(
     requires room { depth < 2 ^ 64 - 1 }
     ensures reads { IfOk result (λ r. (b : Term) → read heap.old lam.index names ≡ lam_term b → read heap.new r.index names ≡ sub (first (names depth)) b) }
     ensures valid { IfOk result (λ r. IsValid heap.new r.index (depth + 1)) }
+    ensures variables { heap.new.depths ≡ heap.old.depths }
     ensures grows { Grows heap.old heap.new [] [] }
 {
     heap.is_sound();
@@ -159,6 +161,7 @@ fn write_lam(
     requires pieces { ArePieces base heap.old (reverse work.old.items) }
     ensures prints { OnOk result ((table : List (List ℕ)) (seen : List ℕ) → LeavesTerm table base top heap.old (read heap.old lam.index names) depth (reverse work.old.items) (page out.old seen) heap.new (page out.new seen) (reverse work.new.items)) }
     ensures err { OnErr result (out.new ≡ out.old) }
+    ensures variables { heap.new.depths ≡ heap.old.depths }
     ensures grows { Grows heap.old heap.new [] [] }
 {
     heap.is_sound();
@@ -188,6 +191,7 @@ fn write_seen_lam(
     requires pieces { ArePieces base heap.old (reverse work.old.items) }
     ensures prints { OnOk result ((table : List (List ℕ)) (seen : List ℕ) → LeavesTerm table base top heap.old (read heap.old lam.index names) depth (reverse work.old.items) (page out.old seen) heap.new (page out.new seen) (reverse work.new.items)) }
     ensures err { OnErr result (out.new ≡ out.old) }
+    ensures variables { heap.new.depths ≡ heap.old.depths }
     ensures grows { Grows heap.old heap.new [] [] }
 {
     heap.is_sound();
@@ -254,6 +258,7 @@ fn write_redex(
     requires pieces { ArePieces base heap.old (reverse work.old.items) }
     ensures prints { OnOk result ((table : List (List ℕ)) (seen : List ℕ) → LeavesTerm table base top heap.old (apply_all (read heap.old lam.index names) (all_read heap.old args.now)) depth (reverse work.old.items) (page out.old seen) heap.new (page out.new seen) (reverse work.new.items)) }
     ensures stops { OnErr result ((table : List (List ℕ)) (seen : List ℕ) → StopsTerm table base top heap.old (apply_all (read heap.old lam.index names) (all_read heap.old args.now)) depth (reverse work.old.items) (page out.old seen) out.new) }
+    ensures variables { heap.new.depths ≡ heap.old.depths }
     ensures grows { Grows heap.old heap.new [] [] }
 {
     push_arguments(args, depth, work)?;
@@ -279,6 +284,7 @@ fn write_form(
     requires pieces { ArePieces base heap.old (reverse work.old.items) }
     ensures prints { OnOk result (LeavesTerm symbols.now base top heap.old (seen_term heap.old form.now) depth (reverse work.old.items) (page out.old namer.old) heap.new (page out.new namer.new) (reverse work.new.items)) }
     ensures stops { OnErr result (StopsTerm symbols.now base top heap.old (seen_term heap.old form.now) depth (reverse work.old.items) (page out.old namer.old) out.new) }
+    ensures variables { heap.new.depths ≡ heap.old.depths }
     ensures grows { Grows heap.old heap.new [] [] }
 {
     match form {
@@ -324,6 +330,7 @@ fn write_inner_form(
     requires pieces { ArePieces base heap.old (reverse work.old.items) }
     ensures prints { OnOk result (LeavesTerm symbols.now base inner heap.old (seen_term heap.old form.now) depth (reverse work.old.items) (page out.old namer.old) heap.new (page out.new namer.new) (reverse work.new.items)) }
     ensures stops { OnErr result (StopsTerm symbols.now base inner heap.old (seen_term heap.old form.now) depth (reverse work.old.items) (page out.old namer.old) out.new) }
+    ensures variables { heap.new.depths ≡ heap.old.depths }
     ensures grows { Grows heap.old heap.new [] [] }
 {
     if is_bare(form) {
@@ -350,6 +357,7 @@ fn write_top(
     requires pieces { ArePieces base heap.old (reverse work.old.items) }
     ensures prints { OnOk result (LeavesTerm symbols.now base top heap.old (read heap.old node.index names) depth (reverse work.old.items) (page out.old namer.old) heap.new (page out.new namer.new) (reverse work.new.items)) }
     ensures stops { OnErr result (StopsTerm symbols.now base top heap.old (read heap.old node.index names) depth (reverse work.old.items) (page out.old namer.old) out.new) }
+    ensures variables { heap.new.depths ≡ heap.old.depths }
     ensures grows { Grows heap.old heap.new [] [] }
 {
     heap.is_sound();
@@ -373,6 +381,7 @@ fn write_inner(
     requires pieces { ArePieces base heap.old (reverse work.old.items) }
     ensures prints { OnOk result (LeavesTerm symbols.now base inner heap.old (read heap.old node.index names) depth (reverse work.old.items) (page out.old namer.old) heap.new (page out.new namer.new) (reverse work.new.items)) }
     ensures stops { OnErr result (StopsTerm symbols.now base inner heap.old (read heap.old node.index names) depth (reverse work.old.items) (page out.old namer.old) out.new) }
+    ensures variables { heap.new.depths ≡ heap.old.depths }
     ensures grows { Grows heap.old heap.new [] [] }
 {
     heap.is_sound();
@@ -397,6 +406,7 @@ fn write_kept(
     requires pieces { ArePieces base heap.old (reverse work.old.items) }
     ensures prints { OnOk result ((table : List (List ℕ)) (seen : List ℕ) → LeavesTerm table base top heap.old (read heap.old node.index names) depth (reverse work.old.items) (page out.old seen) heap.new (page out.new seen) (reverse work.new.items)) }
     ensures err { OnErr result (out.new ≡ out.old) }
+    ensures variables { heap.new.depths ≡ heap.old.depths }
     ensures grows { Grows heap.old heap.new [] [] }
 {
     write_lam(alloc, heap, base, node, kept - 1, depth, work, out)
@@ -416,6 +426,7 @@ pub(crate) fn write_piece(
     requires pieces { ArePieces base heap.old (piece ∷ reverse work.old.items) }
     ensures prints { OnOk result (Leaves symbols.now base (page out.old namer.old) (work_parts symbols.now base heap.old (piece ∷ reverse work.old.items)) (work_size base heap.old (piece ∷ reverse work.old.items)) heap.new (page out.new namer.new) (reverse work.new.items)) }
     ensures stops { OnErr result (Stops (page out.old namer.old) (work_parts symbols.now base heap.old (piece ∷ reverse work.old.items)) out.new) }
+    ensures variables { heap.new.depths ≡ heap.old.depths }
     ensures grows { Grows heap.old heap.new [] [] }
 {
     match piece {

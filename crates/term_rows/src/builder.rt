@@ -281,6 +281,24 @@ impl Builder {
         Ok(())
     }
 
+    /// Puts the sum of 1,000,000 ones last, whose sums stand inside each other on one side.
+    pub(crate) fn deep_sum(&mut self, is_left: bool) -> Result<(), Fail> {
+        for _count in 0..1_000_000 {
+            self.constant("+")?;
+            if !is_left {
+                self.integer(1)?;
+            }
+        }
+        self.integer(0)?;
+        for _count in 0..1_000_000 {
+            if is_left {
+                self.integer(1)?;
+            }
+            self.application(2)?;
+        }
+        Ok(())
+    }
+
     /// Takes the newest term, and puts its printed form last.
     pub(crate) fn print(
         &mut self,

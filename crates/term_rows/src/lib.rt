@@ -7,6 +7,8 @@
 #[cfg(test)]
 mod builder;
 #[cfg(test)]
+mod calling;
+#[cfg(test)]
 mod heaping;
 #[cfg(test)]
 mod printing;

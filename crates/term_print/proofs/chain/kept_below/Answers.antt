@@ -1,4 +1,4 @@
-use Rattle.std.proofs.Common.{[]}
+use Rattle.std.proofs.Common.{[], refl, ◌∙◌}
 use Rattle.level_terms.proofs.GrowthLemmas.{grows-refl, grows-trans}
 use Rattle.level_terms.proofs.ValidLemmas.{growth_keeps_valid}
 use Rattle.level_terms.proofs.ReadLemmas.{valid-below}
@@ -9,7 +9,7 @@ pub chain_length-count-requires : goal.chain_length-count-requires
 chain_length-count-requires c = valid-below c.args.heap.now c.args.lam.index c.args.depth c.requires
 
 pub loop-count-init : goal.loop-count-init
-loop-count-init c = record { valid = c.requires; grows = grows-refl c.args.heap.now [] }
+loop-count-init c = record { valid = c.requires; variables = refl; grows = grows-refl c.args.heap.now [] }
 
 pub returns-in_err-are_kept-clause-grows : goal.returns-in_err-are_kept-clause-grows
 returns-in_err-are_kept-clause-grows c = grows-trans c.args.heap.now c.loop-count.heap c.are_kept.new.heap [] [] [] c.loop-count.invariant.grows c.are_kept.ensures.grows
@@ -23,5 +23,6 @@ returns-then-branch-clause-grows c = grows-trans c.args.heap.now c.loop-count.he
 pub loop-count-preserved : goal.loop-count-preserved
 loop-count-preserved c = record {
   valid = growth_keeps_valid c.loop-count.heap c.are_kept.new.heap [] [] c.args.lam.index c.args.depth c.is_sound-in-loop-count.ensures c.are_kept.ensures.grows (valid-below c.loop-count.heap c.args.lam.index c.args.depth c.loop-count.invariant.valid) c.loop-count.invariant.valid;
+  variables = c.are_kept.ensures.variables ∙ c.loop-count.invariant.variables;
   grows = grows-trans c.args.heap.now c.loop-count.heap c.are_kept.new.heap [] [] [] c.loop-count.invariant.grows c.are_kept.ensures.grows;
 }

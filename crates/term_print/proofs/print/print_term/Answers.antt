@@ -16,7 +16,7 @@ pub loop-piece-preserved : goal.loop-piece-preserved
 loop-piece-preserved c =
     goes_on c.args.symbols.now c.args.depth c.args.heap.now (work_parts c.args.symbols.now c.args.depth c.args.heap.now (Top c.args.t c.args.depth 0 ∷ [])) (page c.args.out.now c.args.namer.now)
     c.loop-piece.heap c.write_piece.new.heap c.loop-piece.work.items c.pop.new.self.items c.in-Some.piece (page c.loop-piece.out c.loop-piece.namer) (page c.write_piece.new.out c.write_piece.new.namer) (reverse c.write_piece.new.work.items)
-    c.in-Some.ensures.items c.loop-piece.invariant c.in_ok-write_piece.ensures.prints c.in_ok-write_piece.ensures.grows
+    c.in-Some.ensures.items c.loop-piece.invariant c.in_ok-write_piece.ensures.prints c.in_ok-write_piece.ensures.variables c.in_ok-write_piece.ensures.grows
 
 pub returns-in_err-write_piece-clause-front : goal.returns-in_err-write_piece-clause-front
 returns-in_err-write_piece-clause-front c = on-err c.from_residual-in_err-write_piece.result

@@ -1,4 +1,4 @@
-use Rattle.std.proofs.Common.{[], get_or, length, ◌<◌, arith}
+use Rattle.std.proofs.Common.{[], get_or, length, ◌<◌, arith, refl, ◌∙◌}
 use Rattle.level_terms.specs.Reading.{read}
 use Rattle.level_terms.proofs.GrowthLemmas.{grows-refl, grows-trans}
 use Rattle.level_terms.proofs.ValidLemmas.{growth_keeps_valid}
@@ -14,6 +14,7 @@ use Rattle.term_print.proofs.sequent.print_more.Goals as goal
 pub loop-term-init : goal.loop-term-init
 loop-term-init c = record {
   prints = prints-none (page c.args.out.now c.args.namer.now) (more_lines c.args.symbols.now (all_read c.args.heap.now c.args.terms.now));
+  variables = refl;
   grows = grows-refl c.args.heap.now [];
 }
 
@@ -45,5 +46,6 @@ loop-term-preserved c =
           (one-read-grown c.args.heap.now c.loop-term.heap c.is_sound.ensures c.loop-term.invariant.grows (get_or c.args.terms.now c.loop-term.term-index (record { index = 0 })) c.args.depth v)
           (page c.args.out.now c.args.namer.now) (more_lines c.args.symbols.now (all_read c.args.heap.now c.args.terms.now)) c.loop-term.out c.push_slice.new.self c.loop-term.namer c.print_term.new.out c.print_term.new.namer
           c.loop-term.invariant.prints c.in_ok-push_slice.ensures.ok c.in_ok-print_term.ensures.text c.in_ok-print_term.ensures.seen;
+      variables = c.print_term.ensures.variables ∙ c.loop-term.invariant.variables;
       grows = grows-trans c.args.heap.now c.loop-term.heap c.print_term.new.heap [] [] [] c.loop-term.invariant.grows c.print_term.ensures.grows;
     }
