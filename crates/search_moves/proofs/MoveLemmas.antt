@@ -1,0 +1,104 @@
+-- What moves come to.
+use Rattle.std.proofs.Common.{◌≡◌, List, [], ◌∷◌, map, Some, None, Result, Ok, Err, IfOk, refl, sym, ap, ap₂, ◌∙◌, subst}
+use Rattle.level_terms.specs.Reading.{read}
+use Rattle.beta_fragment.specs.Names.{names}
+use Rattle.ref_terms.specs.search.Formula.{GoalKind, goal_kind}
+use Rattle.ref_terms.specs.search.GoalMove.{kind_move}
+use Rattle.ref_terms.specs.unification.Unification.{unify}
+use Rattle.ref_terms.specs.declared.fault.Fault.{Fault}
+use Rattle.ref_terms.specs.search.Program.{Program}
+use Rattle.ref_terms.specs.search.Branch.{Goal, Branch}
+use Rattle.ref_terms.specs.search.BranchMove.{fails}
+use Rattle.ref_terms.specs.search.State.{Alternative, Move, Running, Ended, Failure, Answered, goes_on, stops, faults}
+use Rattle.ref_terms.specs.search.Next.{next, retry, by_goal, by_rule}
+use Rattle.ref_terms.specs.search.FirstRule.{first_firing}
+use Rattle.search_moves.specs.declared.frame.Frame.{Frame}
+use Rattle.search_moves.specs.declared.machine.Phase.{Phase}
+use Rattle.search_moves.specs.declared.machine.Phase.TheVariants as phase
+use Rattle.search_moves.specs.declared.machine.Event.{Event}
+use Rattle.search_moves.specs.declared.machine.Event.TheVariants as event
+use Rattle.search_moves.specs.World.{chain}
+use Rattle.search_moves.specs.Reading.{goal_in}
+use Rattle.search_moves.specs.Machine.{Machine, branch_of, alternatives_of, state_at, state_of, rest_of, move_of, IsFirst, HasMoved}
+
+pub if-ok : {T E : Type 0} (r : Result T E) (A B : T → Type 0) → ((t : T) → A t → B t) → IfOk r A → IfOk r B
+if-ok (Ok t) A B f h = f t h
+if-ok (Err e) A B f h = tt
+
+pub moved : (p : Program) (m : Machine) (b : Branch) (alts : List Alternative) → m.phase ≡ phase.Running → branch_of m ≡ b → alternatives_of p m ≡ alts → HasMoved p (goes_on b alts) event.Moved m
+moved p m b alts e branch others = record {
+  event = refl;
+  state = ap (state_at p m) e ∙ ap₂ (λ (x : Branch) (xs : List Alternative). Running x xs) branch others;
+}
+
+pub failed : (p : Program) (m : Machine) (alts : List Alternative) → m.phase ≡ phase.Failed → alternatives_of p m ≡ alts → HasMoved p (fails alts) event.Moved m
+failed p m alts e others = record { event = refl; state = ap (state_at p m) e ∙ ap (λ (xs : List Alternative). Ended None xs) others }
+
+pub exhausted : (p : Program) (m : Machine) → m.phase ≡ phase.Exhausted → HasMoved p (stops Failure) event.Failure m
+exhausted p m e = record { event = refl; state = ap (state_at p m) e }
+
+pub broken : (p : Program) (m : Machine) (f : Fault) → m.phase ≡ phase.Broken f → HasMoved p (faults f) (event.Fault f) m
+broken p m f e = record { event = refl; state = ap (state_at p m) e }
+
+-- the same move, said otherwise
+pub moved-as : (p : Program) (x y : Move) (e : Event) (m : Machine) → x ≡ y → HasMoved p y e m → HasMoved p x e m
+moved-as p x y e m same h = subst (λ z. HasMoved p z e m) (sym same) h
+
+-- the move of a machine that runs, where there are no rules
+pub next-is : (p : Program) (m : Machine) → p.rules ≡ [] → m.phase ≡ phase.Running
+    → next unify p (state_of p m) ≡ by_goal unify p (branch_of m) (alternatives_of p m) (map (goal_in m.world.heap) (chain m.world.frames m.first))
+unfolding next
+next-is p m none e =
+    ap (λ (k : Phase). next unify p (state_at p m k)) e
+    ∙ ap (λ rs. by_rule unify p (branch_of m) (alternatives_of p m) (first_firing unify (branch_of m) 0 rs)) none
+
+pub next-answered : (p : Program) (m : Machine) → m.phase ≡ phase.Answered → next unify p (state_of p m) ≡ retry unify p (alternatives_of p m)
+unfolding next
+next-answered p m e = ap (λ (k : Phase). next unify p (state_at p m k)) e
+
+pub next-failed : (p : Program) (m : Machine) → m.phase ≡ phase.Failed → next unify p (state_of p m) ≡ retry unify p (alternatives_of p m)
+unfolding next
+next-failed p m e = ap (λ (k : Phase). next unify p (state_at p m k)) e
+
+pub next-exhausted : (p : Program) (m : Machine) → m.phase ≡ phase.Exhausted → next unify p (state_of p m) ≡ stops Failure
+unfolding next
+next-exhausted p m e = ap (λ (k : Phase). next unify p (state_at p m k)) e
+
+pub next-broken : (p : Program) (m : Machine) (f : Fault) → m.phase ≡ phase.Broken f → next unify p (state_of p m) ≡ faults f
+unfolding next
+next-broken p m f e = ap (λ (k : Phase). next unify p (state_at p m k)) e
+
+pub answered : (p : Program) (old new : Machine) → p.rules ≡ [] → old.phase ≡ phase.Running → chain old.world.frames old.first ≡ [] → new ≡ record old { phase = phase.Answered }
+    → HasMoved p (next unify p (state_of p old)) event.Answer new
+answered p old new none e empty same =
+    let last : Move = record { event = Answered (branch_of old); state = Ended (Some (branch_of old)) (alternatives_of p old) } in
+    moved-as p (next unify p (state_of p old)) last event.Answer new
+    (next-is p old none e ∙ ap (λ fs. by_goal unify p (branch_of old) (alternatives_of p old) (map (goal_in old.world.heap) fs)) empty)
+    (record { event = ap (λ m. Answered (branch_of m)) same; state = ap (state_of p) same })
+
+-- a fault
+pub broken-off : (p : Program) (move : Move) (old new : Machine) (f : Fault) (e : Event) → move ≡ faults f → e ≡ event.Fault f → new ≡ record old { phase = phase.Broken f } → HasMoved p move e new
+broken-off p move old new f e is shown same =
+    moved-as p move (faults f) e new is (subst (λ z. HasMoved p (faults f) z new) (sym shown) (broken p new f (ap (λ m. m.phase) same)))
+
+-- the first goal's move
+
+abbrev tail : List Goal → List Goal
+tail [] = []
+tail (x ∷ xs) = xs
+
+pub goal-moved : (p : Program) (m0 m1 new : Machine) (f : Frame) (kind : GoalKind) (e : Event) → p.rules ≡ [] → m0.phase ≡ phase.Running → IsFirst m0 f → IsFirst m1 f
+    → goal_in m1.world.heap f ≡ goal_in m0.world.heap f → branch_of m1 ≡ branch_of m0 → alternatives_of p m1 ≡ alternatives_of p m0
+    → goal_kind (read m1.world.heap f.term.index names) ≡ kind → HasMoved p (move_of p m1 f kind) e new → HasMoved p (next unify p (state_of p m0)) e new
+goal-moved p m0 m1 new f kind e none running first first' goal branch others is h =
+    let rest : rest_of m1 f ≡ rest_of m0 f =
+    ap tail (sym (ap (map (goal_in m1.world.heap)) first'.goals)) ∙ ap (λ b. tail b.goals) branch ∙ ap tail (ap (map (goal_in m0.world.heap)) first.goals) in
+    let here : goal_kind (read m0.world.heap f.term.index names) ≡ kind = ap (λ g. goal_kind g.term) (sym goal) ∙ is in
+    let start = next-is p m0 none running ∙ ap (λ fs. by_goal unify p (branch_of m0) (alternatives_of p m0) (map (goal_in m0.world.heap) fs)) first.goals in
+    let same : kind_move unify p (branch_of m0) (goal_in m0.world.heap f) (rest_of m0 f) (alternatives_of p m0) (goal_kind (read m0.world.heap f.term.index names)) ≡ move_of p m1 f kind =
+    ap (kind_move unify p (branch_of m0) (goal_in m0.world.heap f) (rest_of m0 f) (alternatives_of p m0)) here
+    ∙ sym (ap (λ b. kind_move unify p b (goal_in m1.world.heap f) (rest_of m1 f) (alternatives_of p m1) kind) branch
+    ∙ ap (λ g. kind_move unify p (branch_of m0) g (rest_of m1 f) (alternatives_of p m1) kind) goal
+    ∙ ap (λ gs. kind_move unify p (branch_of m0) (goal_in m0.world.heap f) gs (alternatives_of p m1) kind) rest
+    ∙ ap (λ ys. kind_move unify p (branch_of m0) (goal_in m0.world.heap f) (rest_of m0 f) ys kind) others) in
+    moved-as p (next unify p (state_of p m0)) (move_of p m1 f kind) e new (start ∙ same) h

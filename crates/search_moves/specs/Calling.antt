@@ -1,0 +1,156 @@
+-- Calls of atoms, and the clauses that are tried.
+use Rattle.std.specs.Prelude.{◌≡◌, ℕ, ◌<◌, ◌≤◌, Bool, true, false, cond, nat_eq, suc, List, [], ◌∷◌, length, map, drop, replicate, slice_get, Option, Some, None, option_to_list, unwrap_or}
+use Rattle.level_terms.specs.declared.node.TermId.{TermId}
+use Rattle.level_terms.specs.Graph.{Graph}
+use Rattle.level_terms.specs.Reading.{read}
+use Rattle.beta_fragment.specs.declared.answer.UnifyStop.{UnifyStop}
+use Rattle.beta_fragment.specs.declared.answer.UnifyStop.TheVariants.{Fault, Memory}
+use Rattle.beta_fragment.specs.HeadForm.{all_read, AllValidAt}
+use Rattle.beta_fragment.specs.Names.{names}
+use Rattle.ref_terms.specs.terms.Term.{Term, Con}
+use Rattle.ref_terms.specs.unification.Spine.{args_of, head_of}
+use Rattle.ref_terms.specs.unification.Problem.{Binding}
+use Rattle.ref_terms.specs.search.Program.{Program, Clause, headed_by, modes_of}
+use Rattle.ref_terms.specs.search.Instance.{ClauseInstance, clause_instance}
+use Rattle.ref_terms.specs.search.Branch.{Branch, bound, bound_branch}
+use Rattle.ref_terms.specs.search.Fault.{Judged, Good, Bad}
+use Rattle.hyp_clause.specs.Hyps.{assumption_in}
+use Rattle.ref_terms.specs.search.Candidates.{program_candidates, call_fault}
+use Rattle.ref_terms.specs.search.State.{Candidate, of_program}
+use Rattle.ref_terms.specs.search.BranchMove.{with_later}
+use Rattle.ref_terms.specs.search.Resolve.{Tried, Fits, Clashes, Breaks, Resolved, resolve, try}
+use Rattle.ref_terms.specs.unification.Unification.{unify}
+use Rattle.search_moves.specs.declared.frame.Frame.{Frame}
+use Rattle.search_moves.specs.declared.frame.Mark.{Mark}
+use Rattle.search_moves.specs.declared.frame.Left.TheVariants.{Call as LeftCall}
+use Rattle.search_moves.specs.declared.frame.Later.{Later}
+use Rattle.search_moves.specs.declared.frame.Later.TheVariants.{Clauses}
+use Rattle.ref_terms.specs.declared.sym.Sym.{Sym}
+use Rattle.search_moves.specs.Reading.{goal_in, saved_in, later_of}
+use Rattle.search_moves.specs.declared.clauses.Instance.{Instance}
+use Rattle.search_moves.specs.declared.call.Call.{Call}
+use Rattle.search_moves.specs.Machine.{Machine, branch_of, alternatives_of, rest_of, IsFirst}
+use Rattle.search_moves.specs.Matching.{tried_at}
+
+-- an instance of a clause in the heap: these nodes are its head's arguments and its body, and its variables are the newest ones
+pub record IsMadeOf (instance : ClauseInstance) (depth : ℕ) (new : Graph) (hs ts : List TermId) : Type 0 where
+  pub heads : all_read new hs ≡ args_of instance.head
+  pub body : all_read new ts ≡ instance.body
+  pub variables : length new.depths ≡ instance.next_var
+  pub heads_valid : AllValidAt new hs depth
+  pub body_valid : AllValidAt new ts depth
+
+-- a clause in the heap, at so many names, over new variables
+abbrev pub IsInstanceOf : Clause → (depth : ℕ) → (old new : Graph) → Instance → Type 0
+IsInstanceOf k depth old new made = IsMadeOf (clause_instance k depth (length old.depths)) depth new made.heads (option_to_list made.body)
+
+-- the clause with this number is the first one of a constant from a number on
+pub record IsFirstClause (ks : List Clause) (c from i : ℕ) : Type 0 where
+  pub clause : Clause
+  pub here : slice_get ks i ≡ Some clause
+  pub headed : headed_by c clause.head ≡ true
+  pub low : from ≤ i
+  pub high : i < length ks
+  pub is : program_candidates c from (drop from ks) ≡ of_program i clause ∷ program_candidates c (suc i) (drop (suc i) ks)
+
+-- the first clause of a constant from a number on, if there is one
+abbrev pub IsNextClause : List Clause → (c from : ℕ) → Option ℕ → Type 0
+IsNextClause ks c from None = program_candidates c from (drop from ks) ≡ []
+IsNextClause ks c from (Some i) = IsFirstClause ks c from i
+
+-- the first goal is this call: an atom of the constant with these arguments
+pub record IsCall (m : Machine) (call : Call) : Type 0 where
+  pub first : IsFirst m call.goal.now
+  pub args : AllValidAt m.world.heap call.args.now call.goal.now.depth
+  pub head : head_of (read m.world.heap call.goal.now.term.index names) ≡ Some (Con call.pred.0)
+  pub arguments : args_of (read m.world.heap call.goal.now.term.index names) ≡ all_read m.world.heap call.args.now
+
+-- its inputs are those of the modes; without modes all arguments are outputs
+abbrev pub HasInputs : Call → Option (List Bool) → Type 0
+HasInputs call modes = call.inputs.now ≡ unwrap_or modes (replicate (length call.args.now) false)
+
+-- what the reference makes of a branch with a clause in the heap: one with another number of arguments clashes
+abbrev pub tried_made : Graph → (first_fresh depth : ℕ) → List Bool → (heads args : List TermId) → Branch → Tried
+tried_made g first_fresh depth ms hs ts b = cond (nat_eq (length hs) (length ts)) (tried_at g first_fresh depth ms hs ts b) Clashes
+
+-- the head fits: the present branch goes on under the bindings with which the reference tries any branch
+pub record HasFitted (first_fresh depth : ℕ) (ms : List Bool) (hs ts : List TermId) (old new : Machine) : Type 0 where
+  pub made : List Binding
+  pub fits : (b : Branch) → tried_made old.world.heap first_fresh depth ms hs ts b ≡ Fits (bound_branch made (length new.world.heap.depths) b)
+  pub branch : branch_of new ≡ bound_branch made (length new.world.heap.depths) (branch_of old)
+  pub readings : (t : ℕ) (env : ℕ → Term) → t < length old.world.heap.nodes → read new.world.heap t env ≡ bound made (read old.world.heap t env)
+
+-- it clashes
+abbrev pub HasClashed : (first_fresh depth : ℕ) → List Bool → (heads args : List TermId) → Graph → Type 0
+HasClashed first_fresh depth ms hs ts g = (b : Branch) → tried_made g first_fresh depth ms hs ts b ≡ Clashes
+
+-- what was tried breaks off with this fault; want of memory may come at any time
+abbrev pub BreaksSo : Tried → UnifyStop → Type 0
+BreaksSo t (Fault e) = t ≡ Breaks e
+BreaksSo t Memory = Unit {0}
+
+-- so it is with the head of a clause
+abbrev pub HasBroken : (first_fresh depth : ℕ) → List Bool → (heads args : List TermId) → Graph → UnifyStop → Type 0
+HasBroken first_fresh depth ms hs ts g stop = (b : Branch) → BreaksSo (tried_made g first_fresh depth ms hs ts b) stop
+
+-- what the reference makes of a clause for the first goal
+abbrev pub tried_here : Machine → Frame → Option (List Bool) → Candidate → Tried
+tried_here m f modes c = try unify modes (branch_of m) (goal_in m.world.heap f) (rest_of m f) (length m.saved) c
+
+-- the clause fits: the branch is the one that it gives, and the later clauses are an alternative
+pub record HasEntered (p : Program) (old new : Machine) (f : Frame) (modes : Option (List Bool)) (c : Candidate) (later : List Candidate) : Type 0 where
+  pub fits : tried_here old f modes c ≡ Fits (branch_of new)
+  pub alternatives : alternatives_of p new ≡ with_later (branch_of old) later (alternatives_of p old)
+
+-- what is left of a call is an alternative of the world at the mark, if there is anything
+abbrev pub LeavesLater : Program → (old new : Machine) → Mark → (first : ℕ) → Sym → Option Later → Type 0
+LeavesLater p old new mark first c None = alternatives_of p new ≡ alternatives_of p old
+LeavesLater p old new mark first c (Some later) = alternatives_of p new ≡ saved_in p old.world (record { mark = mark; first = first; left = LeftCall c later }) ∷ alternatives_of p old
+
+-- what is left after a clause are these candidates
+abbrev pub IsLeftAfter : Program → Branch → Sym → List Candidate → Option Later → Type 0
+IsLeftAfter p b c cs None = cs ≡ []
+IsLeftAfter p b c cs (Some later) = (x : Candidate) × (xs : List Candidate) × (cs ≡ x ∷ xs) × (later_of p b.goals c.0 later ≡ cs)
+
+-- the clauses of the program from this one on, if there is one
+abbrev pub clauses_from : Option ℕ → Option Later
+clauses_from None = None
+clauses_from (Some i) = Some (Clauses i)
+
+-- what the reference makes of the clauses of the constant from this number on
+abbrev pub resolved_from : Machine → Frame → List Clause → (c from : ℕ) → Option (List Bool) → Option (Judged Resolved)
+resolved_from m f ks c from modes = resolve unify modes (branch_of m) (goal_in m.world.heap f) (rest_of m f) (length m.saved) (program_candidates c from (drop from ks))
+
+-- one of them fits: the branch is its, and the later ones are an alternative
+pub record HasResolved (p : Program) (old new : Machine) (f : Frame) (c from : ℕ) (modes : Option (List Bool)) : Type 0 where
+  pub resolved : Resolved
+  pub found : resolved_from old f p.clauses c from modes ≡ Some (Good resolved)
+  pub branch : branch_of new ≡ resolved.branch
+  pub alternatives : alternatives_of p new ≡ with_later (branch_of old) resolved.later (alternatives_of p old)
+
+-- what the reference makes of what is left of a call
+abbrev pub resolved_later : Program → Machine → Frame → (c : ℕ) → Later → Option (List Bool) → Option (Judged Resolved)
+resolved_later p m f c later modes = resolve unify modes (branch_of m) (goal_in m.world.heap f) (rest_of m f) (length m.saved) (later_of p (branch_of m).goals c later)
+
+-- something of it fits: the branch is its, and what is left then is an alternative
+pub record HasResolvedLater (p : Program) (old new : Machine) (f : Frame) (c : ℕ) (later : Later) (modes : Option (List Bool)) : Type 0 where
+  pub resolved : Resolved
+  pub found : resolved_later p old f c later modes ≡ Some (Good resolved)
+  pub branch : branch_of new ≡ resolved.branch
+  pub alternatives : alternatives_of p new ≡ with_later (branch_of old) resolved.later (alternatives_of p old)
+
+-- the call's constant is a predicate, and has as many arguments
+abbrev pub IsNoFault : Program → Machine → Call → Type 0
+IsNoFault p m call = call_fault p call.pred.0 (all_read m.world.heap call.args.now) (map (assumption_in m.world.heap) call.goal.now.context) ≡ None
+
+-- the first that doesn't clash comes to this fault; want of memory may come at any time
+abbrev pub ResolvedStops : Option (Judged Resolved) → UnifyStop → Type 0
+ResolvedStops r (Fault e) = r ≡ Some (Bad e)
+ResolvedStops r Memory = Unit {0}
+
+-- the loop over the clauses has come to this one: those before it clash
+pub record IsTrying (p : Program) (m : Machine) (call : Call) (from : ℕ) (later : Option ℕ) : Type 0 where
+  pub at : ℕ
+  pub next : IsNextClause p.clauses call.pred.0 at later
+  pub same : HasInputs call (modes_of p call.pred.0)
+      → resolved_from m call.goal.now p.clauses call.pred.0 from (modes_of p call.pred.0) ≡ resolved_from m call.goal.now p.clauses call.pred.0 at (modes_of p call.pred.0)

@@ -1,0 +1,345 @@
+//! All that a retry takes back.
+
+ghost use Rattle.std.specs.Prelude.{◌≡◌, ◌+◌, ◌++◌, [], ◌∷◌, ◌<◌, ◌≤◌, suc, length, map, replicate, reverse, true, false, IfOk, OnOk, OnErr, IfErr, MatchBool, Some, slice_get, None};
+ghost use Rattle.level_terms.specs.Growth.{Grows};
+ghost use Rattle.level_terms.specs.Reading.{read};
+ghost use Rattle.level_terms.specs.Sound.{IsSound};
+ghost use Rattle.level_terms.specs.Undo.{IsClosed, IsTrailOf};
+ghost use Rattle.level_terms.specs.Valid.{IsValid};
+ghost use Rattle.beta_fragment.specs.HeadForm.{IsHeadForm, AllValidAt, all_read};
+ghost use Rattle.builtins.specs.Moves.{GoesOn, FailsSo, BreaksOff};
+ghost use Rattle.goal_form.specs.Builtins.{builtin_word};
+ghost use Rattle.ref_terms.specs.search.Formula.{reserved_goal};
+ghost use Rattle.ref_terms.specs.search.Instance.{variable_under};
+ghost use Rattle.ref_terms.specs.search.BranchMove.{applied_whole};
+ghost use Rattle.beta_fragment.specs.Names.{names};
+ghost use Rattle.pattern_unify.specs.Answers.{problem_of, AnswersTrue, AnswersFalse, StopsSo};
+ghost use Rattle.search_moves.specs.World.{World, undone, mark_of, oldest, chain, IsWithin, IsContextAt, IsUsable, AllFrames, code_nodes};
+ghost use Rattle.hyp_clause.specs.Hyps.{assumption_in, AllHypsValid, IsHypValid, IsHypFault};
+ghost use Rattle.ref_terms.specs.search.Assumption.{assumptions_of};
+ghost use Rattle.ref_terms.specs.search.Fault.{Good};
+ghost use Rattle.ref_terms.specs.search.Instance.{assumption_instance};
+ghost use Rattle.ref_terms.specs.terms.Apply.{apply};
+ghost use Rattle.ref_terms.specs.search.Program.{Program, Clause};
+ghost use Rattle.search_moves.specs.Calling.{IsInstanceOf, IsMadeOf};
+ghost use Rattle.search_moves.specs.Moves.{LeavesRest, Growing};
+
+use crate::clauses::{Clauses, Instance};
+use crate::frame::{Frame, Mark};
+use crate::opening::applied_to_variable;
+use crate::visitor::Visitor;
+use beta_fragment::{UnifyStop, Whnf, applied_to_level, whnf};
+use builtins::{Builtin, Events, call_builtin};
+use hyp_clause::{Hyp, HypStop, Hyps, compile_hyp, hyp_body_of, hyp_head_of};
+use input_match::match_arg;
+use level_terms::{Change, Heap, TermId, VarId};
+use lp_resolve::Symbols;
+use ref_terms::Choice;
+use std::alloc::{AllocError, Global};
+use std::marker::Model;
+use trail::Trail;
+
+/// An assumption in the heap, over variables of its own.
+#[derive(Drop)]
+pub(crate) struct Assumed {
+    /// The arguments of its head.
+    pub heads: Vec<TermId>,
+    /// Its conditions.
+    pub body: Vec<TermId>,
+}
+
+/// The heap with its trail, the frames of goals, the path, and the nodes of the query's variables.
+/// Contracts see a `World`, whose lists stand newest first.
+#[derive(Drop)]
+pub(crate) struct Stage {
+    alloc: Global,
+    heap: Heap,
+    trail: Trail<Change>,
+    frames: Vec<Frame>,
+    path: Vec<Choice>,
+    query: Vec<TermId>,
+    base: usize,
+}
+
+impl Model for Stage {
+    ghost use Rattle.search_moves.specs.World.{World};
+
+    ghost Value = { World };
+
+    ghost use Rattle.search_moves.specs.StageView.{world_of, IsStage};
+
+    ghost view = { world_of };
+
+    ghost invariant = { IsStage };
+}
+
+impl Stage {
+    /// A stage with this heap, without goals and path. Takes no memory.
+    pub(crate) fn new(alloc: Global, heap: Heap, trail: Trail<Change>, query: Vec<TermId>) -> Stage
+        requires { IsTrailOf heap trail.entries }
+        ensures { result ≡ record { heap = heap; frames = []; path = []; query = query.items; base = length heap.nodes } }
+    {
+        let base = heap.mark(&trail).nodes;
+        Stage {
+            alloc,
+            heap,
+            trail,
+            frames: Vec::new(alloc),
+            path: Vec::new(alloc),
+            query,
+            base,
+        }
+    }
+
+    /// Does nothing. Its contract is what holds of every heap.
+    pub(crate) fn is_sound(&self)
+        ensures { IsSound self.now.heap }
+    {
+        self.heap.is_sound();
+    }
+
+    /// So many arguments, all of them outputs.
+    pub(crate) fn all_outputs(&self, n: usize) -> Result<Vec<bool>, AllocError>
+        ensures { IfOk result (λ ms. ms.items ≡ replicate n false) }
+    {
+        Ok(vec![in self.alloc; false; n]?)
+    }
+
+    /// The number of the next variable.
+    pub(crate) fn next_var(&self) -> VarId
+        ensures { result.index ≡ length self.now.heap.depths }
+    {
+        self.heap.next_var()
+    }
+
+    /// How much there is now. Takes no memory.
+    pub(crate) fn mark(&self) -> Mark
+        ensures now { result ≡ mark_of self.now }
+        ensures closed { IsClosed result.heap self.now.heap }
+    {
+        Mark {
+            heap: self.heap.mark(&self.trail),
+            frames: self.frames.len(),
+            path: self.path.len(),
+        }
+    }
+
+    /// Goes back to a mark. Takes no memory.
+    pub(crate) fn undo(&mut self, m: Mark)
+        requires within { IsWithin m self.old }
+        requires closed { IsClosed m.heap self.old.heap }
+        ensures { self.new ≡ undone m self.old }
+    {
+        self.heap.undo(&mut self.trail, m.heap);
+        self.frames.truncate(m.frames);
+        self.path.truncate(m.path);
+    }
+
+    /// The first goal of a list of goals that isn't empty.
+    pub(crate) fn goal(&self, first: usize) -> Result<Frame, AllocError>
+        requires frames { AllFrames self.now.heap self.now.frames }
+        requires some { 0 < first }
+        requires there { first ≤ length self.now.frames }
+        ensures goals { IfOk result (λ f. chain self.now.frames first ≡ f ∷ chain self.now.frames f.next) }
+        ensures valid { IfOk result (λ f. IsValid self.now.heap f.term.index f.depth) }
+        ensures context { IfOk result (λ f. IsContextAt self.now.heap f.depth f.context) }
+        ensures later { IfOk result (λ f. f.next < first) }
+    {
+        let frame = &self.frames[first - 1];
+        frame.copy()
+    }
+
+    /// Adds a frame, and answers the number of its list.
+    pub(crate) fn push(&mut self, frame: Frame) -> Result<usize, AllocError>
+        ensures ok { IfOk result (λ n. (n ≡ suc (length self.old.frames)) × (self.new ≡ record self.old { frames = frame ∷ self.old.frames })) }
+        ensures err { OnErr result (self.new ≡ self.old) }
+    {
+        self.frames.push(frame)?;
+        Ok(self.frames.len())
+    }
+
+    /// Keeps the oldest frames, as many as that.
+    pub(crate) fn cut(&mut self, n: usize)
+        requires { n ≤ length self.old.frames }
+        ensures { self.new ≡ record self.old { frames = oldest n self.old.frames } }
+    {
+        self.frames.truncate(n);
+    }
+
+    /// Puts a choice on the path.
+    pub(crate) fn choose(&mut self, c: Choice) -> Result<(), AllocError>
+        ensures ok { OnOk result (self.new ≡ record self.old { path = c ∷ self.old.path }) }
+        ensures err { OnErr result (self.new ≡ self.old) }
+    {
+        self.path.push(c)?;
+        Ok(())
+    }
+
+    /// What a term is.
+    pub(crate) fn whnf(&mut self, t: TermId, depth: usize) -> Result<Whnf, AllocError>
+        requires { IsValid self.old.heap t.index depth }
+        ensures form { IfOk result (λ w. IsHeadForm self.new.heap depth (read self.old.heap t.index names) w) }
+        ensures variables { self.new.heap.depths ≡ self.old.heap.depths }
+        ensures grows { Grows self.old.heap self.new.heap [] [] }
+        ensures rest { LeavesRest self.old self.new }
+    {
+        whnf(self.alloc, &mut self.heap, t, depth)
+    }
+
+    /// A term applied to the name of the level `depth`.
+    pub(crate) fn applied_to_level(&mut self, f: TermId, depth: usize) -> Result<TermId, AllocError>
+        requires { IsValid self.old.heap f.index depth }
+        ensures reads { IfOk result (λ r. read self.new.heap r.index names ≡ apply (read self.old.heap f.index names) (names depth)) }
+        ensures valid { IfOk result (λ r. IsValid self.new.heap r.index (depth + 1)) }
+        ensures variables { self.new.heap.depths ≡ self.old.heap.depths }
+        ensures grows { Grows self.old.heap self.new.heap [] [] }
+        ensures rest { LeavesRest self.old self.new }
+    {
+        applied_to_level(self.alloc, &mut self.heap, f, depth)
+    }
+
+    /// Makes a clause in the heap.
+    pub(crate) fn instance<C: Clauses>(
+        &mut self,
+        code: &C,
+        clause: usize,
+        depth: usize,
+    ) -> Result<Instance, AllocError>
+        requires base { self.old.base ≤ length self.old.heap.nodes }
+        requires code { (p : Program) × (C.stands (code_nodes self.old) code.now p) × (clause < length p.clauses) }
+        ensures made { IfOk result (λ i. (p : Program) (k : Clause) → C.stands (code_nodes self.old) code.now p → slice_get p.clauses clause ≡ Some k → IsInstanceOf k depth self.old.heap self.new.heap i) }
+        ensures grows { Grows self.old.heap self.new.heap [] [] }
+        ensures rest { LeavesRest self.old self.new }
+    {
+        code.instance(self.alloc, &mut self.heap, clause, depth)
+    }
+
+    /// The clauses that a term assumes.
+    pub(crate) fn compile_hyp(&mut self, t: TermId, depth: usize) -> Result<Hyps, HypStop>
+        requires { IsValid self.old.heap t.index depth }
+        ensures clauses { IfOk result (λ hs. Good (map (assumption_in self.new.heap) hs) ≡ assumptions_of depth (read self.old.heap t.index names)) }
+        ensures valid { IfOk result (λ hs. AllHypsValid self.new.heap hs) }
+        ensures fault { IfErr result (λ stop. IsHypFault stop (assumptions_of depth (read self.old.heap t.index names))) }
+        ensures variables { self.new.heap.depths ≡ self.old.heap.depths }
+        ensures grows { Grows self.old.heap self.new.heap [] [] }
+        ensures rest { LeavesRest self.old self.new }
+    {
+        compile_hyp(self.alloc, &mut self.heap, t, depth)
+    }
+
+    /// Makes an assumption in the heap, at so many names.
+    pub(crate) fn assumed_instance(
+        &mut self,
+        hyp: &Hyp,
+        depth: usize,
+    ) -> Result<Assumed, AllocError>
+        requires usable { IsUsable self.old.heap depth hyp.now }
+        requires valid { IsHypValid self.old.heap hyp.now }
+        ensures made { IfOk result (λ i. IsMadeOf (assumption_instance (assumption_in self.old.heap hyp.now) depth (length self.old.heap.depths)) depth self.new.heap i.heads.items i.body.items) }
+        ensures grows { Grows self.old.heap self.new.heap [] [] }
+        ensures rest { LeavesRest self.old self.new }
+    {
+        self.heap.is_sound();
+        let head = hyp_head_of(self.alloc, &mut self.heap, hyp, depth)?;
+        self.heap.is_sound();
+        let body = hyp_body_of(self.alloc, &mut self.heap, hyp, &head)?;
+        Ok(Assumed {
+            heads: head.args,
+            body,
+        })
+    }
+
+    /// A term applied to a new variable under so many names, which an abstraction takes whole.
+    pub(crate) fn applied_to_variable(
+        &mut self,
+        f: TermId,
+        depth: usize,
+    ) -> Result<TermId, AllocError>
+        requires { IsValid self.old.heap f.index depth }
+        ensures reads { IfOk result (λ r. read self.new.heap r.index names ≡ applied_whole (read self.old.heap f.index names) (variable_under depth (length self.old.heap.depths))) }
+        ensures valid { IfOk result (λ r. IsValid self.new.heap r.index depth) }
+        ensures variables { OnOk result (self.new.heap.depths ≡ self.old.heap.depths ++ depth ∷ []) }
+        ensures grows { Grows self.old.heap self.new.heap [] [] }
+        ensures rest { LeavesRest self.old self.new }
+    {
+        applied_to_variable(self.alloc, &mut self.heap, f, depth)
+    }
+
+    /// Does what the built-in does with these arguments, and answers whether it succeeds.
+    pub(crate) fn call_builtin(
+        &mut self,
+        symbols: &Symbols,
+        builtin: Builtin,
+        args: &[TermId],
+        depth: usize,
+        events: &mut Events,
+    ) -> Result<bool, UnifyStop>
+        requires { AllValidAt self.old.heap args.now depth }
+        ensures moves { IfOk result (λ b. events.old ≡ None → MatchBool b
+            (GoesOn symbols.now self.old.heap self.new.heap depth (reserved_goal (builtin_word builtin) (all_read self.old.heap args.now)) events.new)
+            (FailsSo symbols.now self.old.heap depth (reserved_goal (builtin_word builtin) (all_read self.old.heap args.now)))) }
+        ensures breaks_off { IfErr result (BreaksOff symbols.now self.old.heap depth (reserved_goal (builtin_word builtin) (all_read self.old.heap args.now))) }
+        ensures grows { Growing self.old.heap self.new.heap }
+        ensures rest { LeavesRest self.old self.new }
+    {
+        call_builtin(
+            self.alloc,
+            &mut self.heap,
+            &mut self.trail,
+            symbols,
+            builtin,
+            args,
+            depth,
+            events,
+        )
+    }
+
+    /// Makes an argument of a clause equal to one of an atom, by assignments of variables that aren't
+    /// older than `first_fresh`.
+    pub(crate) fn match_arg(
+        &mut self,
+        head: TermId,
+        arg: TermId,
+        depth: usize,
+        first_fresh: VarId,
+    ) -> Result<bool, UnifyStop>
+        requires head { IsValid self.old.heap head.index depth }
+        requires argument { IsValid self.old.heap arg.index depth }
+        requires first { first_fresh.index ≤ length self.old.heap.depths }
+        ensures answer { IfOk result (λ b. MatchBool b
+            (AnswersTrue first_fresh.index self.old.heap self.new.heap (problem_of self.old.heap head.index arg.index depth))
+            (AnswersFalse first_fresh.index (problem_of self.old.heap head.index arg.index depth))) }
+        ensures stops { IfErr result (λ stop. StopsSo first_fresh.index (problem_of self.old.heap head.index arg.index depth) stop) }
+        ensures grows { Growing self.old.heap self.new.heap }
+        ensures rest { LeavesRest self.old self.new }
+    {
+        match_arg(
+            self.alloc,
+            &mut self.heap,
+            &mut self.trail,
+            head,
+            arg,
+            depth,
+            first_fresh,
+        )
+    }
+
+    /// Lets a visitor look at the query's variables, and takes back what it makes.
+    pub(crate) fn visit<V: Visitor>(&mut self, visitor: &mut V) -> Result<(), AllocError>
+        requires { AllValidAt self.old.heap self.old.query 0 }
+        ensures sees { OnOk result (V.sees visitor.old (all_read self.old.heap self.old.query) visitor.new) }
+        ensures same { self.new ≡ self.old }
+    {
+        let mark = self.mark();
+        let seen = visitor.visit(self.alloc, &mut self.heap, self.query.as_slice());
+        self.undo(mark);
+        seen
+    }
+
+    /// The choices, oldest first. Takes no memory.
+    pub(crate) fn path(&self) -> &[Choice]
+        ensures { reverse result.now ≡ self.now.path }
+    {
+        self.path.as_slice()
+    }
+}
