@@ -1,0 +1,4 @@
+pub mod TableLemmas
+pub mod CodeLemmas
+pub mod LineLemmas
+pub mod StartLemmas

@@ -1,0 +1,24 @@
+use Rattle.std.proofs.Common.{◌≡◌, ℕ, ◌≤◌, Some, length, refl}
+use Rattle.std.specs.Prelude.{slice_get}
+use Rattle.ref_terms.specs.search.Program.{Program, Clause}
+use Rattle.clause_compile.specs.Programs.{IsCode}
+use Rattle.search_moves.specs.World.{oldest}
+use Rattle.search_moves.specs.Calling.{IsInstanceOf}
+use Rattle.goal_run.specs.inside.Code.{Stands}
+use Rattle.goal_run.proofs.CodeLemmas.{if-ok}
+use Rattle.goal_run.proofs.clauses.ProgramCodeClauses.instance.Goals as goal
+
+pub make_instance-requires : goal.make_instance-requires
+make_instance-requires c =
+    let r = c.requires in
+    (r.3.shared, r.1, r.3.code r.0 c.args.heap.now r.2 refl, r.4)
+
+pub returns-clause-made : goal.returns-clause-made
+returns-clause-made c =
+    let g = c.args.heap.now in
+    let h = c.make_instance.new.heap in
+    if-ok c.make_instance.result
+    (λ i. (n : ℕ) (p : Program) (k : Clause) → IsCode n g c.args.self.now.code p → slice_get p.clauses c.args.clause ≡ Some k → IsInstanceOf k c.args.depth g h i)
+    (λ i. (n : ℕ) (p : Program) (k : Clause) → n ≤ length g.nodes → Stands (oldest n g.nodes) c.args.self.now p → slice_get p.clauses c.args.clause ≡ Some k → IsInstanceOf k c.args.depth g h i)
+    (λ i m n p k low w here. m w.shared p k (w.code n g low refl) here)
+    c.make_instance.ensures.made

@@ -1,0 +1,5 @@
+pub mod Tables
+pub mod Code
+pub mod Lines
+pub mod Heading
+pub mod MachineView

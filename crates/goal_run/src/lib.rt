@@ -1,0 +1,13 @@
+//! A search over a compiled program: a query's instance in a heap, one move a call, and the texts of
+//! its answers.
+#![tactic(auto)]
+
+mod answer;
+mod clauses;
+mod code;
+mod machine;
+mod page;
+mod tables;
+
+pub use machine::Machine;
+pub use search_moves::{Event, Stop};
