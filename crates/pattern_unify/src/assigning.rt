@@ -13,6 +13,7 @@ ghost use Rattle.pattern_unify.specs.inside.Closed.{ClosesAlike};
 
 use crate::applying::applied;
 use crate::reaching::node_without;
+use crate::settled::settled;
 use level_terms::{Change, Heap, TermId, VarId};
 use std::alloc::{AllocError, Global};
 use trail::Trail;
@@ -65,6 +66,7 @@ pub(crate) fn assign_absent(
     ensures grows { Grows heap.old heap.new trail.old.entries trail.new.entries }
 {
     heap.is_sound();
+    let body = settled(heap, body, count);
     let node = node_without(alloc, heap, v, body, count)?;
     assign_over(alloc, heap, trail, v, count, node)
 }

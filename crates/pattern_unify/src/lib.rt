@@ -15,6 +15,7 @@ mod own;
 mod positions;
 mod reaching;
 mod rigid;
+mod settled;
 mod side;
 mod solving;
 mod spine;

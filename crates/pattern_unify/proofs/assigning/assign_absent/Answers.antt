@@ -1,4 +1,4 @@
-use Rattle.std.proofs.Common.{ap}
+use Rattle.std.proofs.Common.{ap, ◌∙◌}
 use Rattle.std.proofs.lemmas.Result.{on_ok_weaker}
 use Rattle.level_terms.specs.Reading.{read}
 use Rattle.level_terms.proofs.GrowthLemmas.{grows-notes}
@@ -19,7 +19,7 @@ assign_over-requires-clause-variable c = open-kept c.args.heap.now c.node_withou
 pub returns-clause-bound : goal.returns-clause-bound
 returns-clause-bound c =
     on_ok_weaker c.assign_over.result (bound-after c.args.heap.now c.node_without.new.heap c.assign_over.new.heap c.args.v.index (close_all (names_below c.args.count) (read c.node_without.new.heap c.in_ok-node.node.index names)) (close_all (names_below c.args.count) (read c.args.heap.now c.args.body.index names))
-    c.is_sound.ensures c.node_without.ensures.grows (ap (close_all (names_below c.args.count)) c.in_ok-node.ensures.reads))
+    c.is_sound.ensures c.node_without.ensures.grows (ap (close_all (names_below c.args.count)) (c.in_ok-node.ensures.reads ∙ c.settled-body.ensures.reads)))
     c.assign_over.ensures.bound
 
 pub returns-clause-others : goal.returns-clause-others
