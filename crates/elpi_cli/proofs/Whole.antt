@@ -1,24 +1,34 @@
 -- From what a part wrote to what the whole run wrote.
-use Rattle.std.proofs.Common.{◌≡◌, ◌≢◌, ℕ, ◌+◌, List, [], ◌∷◌, None, Some, IfSome, refl, ap, sym, ◌∙◌, subst, inl, inr, nat_eq, cond, true, false, Bool, ◌⊎◌, IsSome, codes}
+use Rattle.std.proofs.Common.{◌≡◌, ◌≢◌, ℕ, zero, suc, List, [], ◌∷◌, map, None, Some, Ok, Err, IfSome, IfOk, refl, ap, sym, ◌∙◌, subst, inl, inr, nat_eq, cond, true, false, Bool, ◌⊎◌, IsSome, codes}
 use Rattle.std.proofs.lemmas.List.{append-nil}
 use Rattle.std.specs.List.{concat}
 use Rattle.std.specs.declared.option.Option.{Option}
 use Rattle.lam_io.specs.declared.byte_text.FileEntry.{FileEntry}
 use Rattle.lam_io.specs.Writes.{Appended, IsFront}
-use Rattle.elpi_cli.specs.declared.machine.Event.{Event}
-use Rattle.elpi_cli.specs.declared.machine.Event.TheVariants.{Moved, Answered, Failure, Faulted}
+use Rattle.ref_terms.specs.unification.Unification.{unify}
+use Rattle.ref_terms.specs.search.Program.{QueryVar}
+use Rattle.ref_terms.specs.search.Events.{events}
+use Rattle.lp_resolve.specs.Plain.{plain_variable}
+use Rattle.goal_run.specs.Machine.{state_of}
+use Rattle.ref_terms.specs.search.State.{Event, Moved, Printed, Answered, Failure, Faulted}
+use Rattle.ref_terms.specs.texts.Answer.{answer_block}
 use Rattle.elpi_cli.specs.declared.status.Status.{Status}
 use Rattle.elpi_cli.specs.declared.status.Status.TheVariants.{Done, NoAnswer, Words, Fault, Budget, ReadFault, WriteFault, Memory}
-use Rattle.elpi_cli.specs.Output.{Output, line, line_only, preceded}
-use Rattle.elpi_cli.specs.inside.HornOutput.{horn_events, horn_written, plain_block}
+use Rattle.elpi_cli.specs.Output.{Output, line, line_only, preceded, after_failure, written}
 use Rattle.elpi_cli.specs.Written.{IsWritten, IsWholePieces}
-use Rattle.elpi_cli.specs.Top.{output, IsRunOf, IsReadFault, IsStatusOf}
+use Rattle.lam_io.specs.Reads.{bytes_of}
+use Rattle.std.specs.declared.result.Result.{Result}
+use Rattle.elpi_cli.specs.declared.words.Command.{Command}
+use Rattle.elpi_cli.specs.declared.words.Command.TheVariants.{Run}
+use Rattle.elpi_cli.specs.Words.{command}
+use Rattle.elpi_cli.specs.Texts.{with_file}
+use Rattle.elpi_cli.specs.Top.{output, word_at, file_names, files_output, command_output, files_for, known_files, IsRunOf, IsReadFault, IsStatusOf}
 use Rattle.std.specs.Bool.{⊤}
 use Rattle.std.specs.String.{string_bytes}
+use Rattle.elpi_cli.specs.declared.top.Job.{Job}
 use Rattle.elpi_cli.specs.declared.top.Prepared.{Prepared}
-use Rattle.elpi_cli.specs.Reading.{reading}
 use Rattle.elpi_cli.specs.declared.top.Prepared.TheVariants.{Search, Line}
-use Rattle.elpi_cli.specs.inside.Prepared.{Prepares, prepared_output, search_output, status_of}
+use Rattle.elpi_cli.specs.inside.Prepared.{Loads, Prepares, IsOutputOf, HasSomeOutput, status_of}
 
 -- what the part was to write is the whole output
 exact-run : (words : List (List ℕ)) (files : List FileEntry) (read_failed : Type 0) (out : Output) (status : Status) (bytes : List ℕ) → output words files ≡ out → status ≢ ReadFault → IsWritten out status bytes → IsRunOf words files read_failed status bytes
@@ -46,12 +56,22 @@ either-ends : (test : Bool) (pieces : List (List ℕ)) (first second : Output) �
 either-ends true pieces first second one two = one
 either-ends false pieces first second one two = two
 
-pub written-ends : (limit count : ℕ) (events : List Event) → IsSearchEnd (horn_written limit count events).status
-written-ends limit count [] = tt
-written-ends limit count (Moved ∷ events) = written-ends limit count events
-written-ends limit count (Answered ∷ events) = either-ends (nat_eq (count + 1) limit) (plain_block (count + 1) ∷ []) (line_only (line (codes "stopped")) Done) (horn_written limit (count + 1) events) tt (written-ends limit (count + 1) events)
-written-ends limit count (Failure ∷ events) = either-ends (nat_eq count 0) [] (line_only (line (codes "failure")) NoAnswer) (line_only (line (codes "no more")) Done) tt tt
-written-ends limit count (Faulted name ∷ events) = tt
+after-failure-ends : (count : ℕ) → IsSearchEnd (after_failure count).status
+after-failure-ends zero = tt
+after-failure-ends (suc count) = tt
+
+pub written-ends : (table : List (List ℕ)) (variables : List QueryVar) (limit count : ℕ) (events : List Event) → IsSearchEnd (written table variables limit count events).status
+written-ends table vs limit count [] = tt
+written-ends table vs limit count (Moved ∷ events) = written-ends table vs limit count events
+written-ends table vs limit count (Printed text ∷ events) = written-ends table vs limit count events
+written-ends table vs limit count (Answered b ∷ events) =
+    either-ends (nat_eq (suc count) limit) (answer_block table vs (suc count) b ∷ []) (line_only (line (codes "stopped")) Done) (written table vs limit (suc count) events) tt (written-ends table vs limit (suc count) events)
+written-ends table vs limit count (Failure ∷ events) = after-failure-ends count
+written-ends table vs limit count (Faulted name ∷ events) = tt
+
+-- what a search writes ends as a search does
+search-ends : (job : Job) (whole : Output) → IsOutputOf whole (Search job) → IsSearchEnd whole.status
+search-ends job whole is = subst (λ (o : Output). IsSearchEnd o.status) (sym is.output) (written-ends job.symbols (map plain_variable job.machine.variables) job.answers 0 (events unify is.program job.steps (state_of is.program job.machine)))
 
 pub not_read : (status : Status) → IsSearchEnd status → status ≢ ReadFault
 not_read ReadFault ends same = ends
@@ -61,42 +81,74 @@ pub not_words : (status : Status) → IsSearchEnd status → status ≢ Words
 not_words Words ends same = ends
 not_words status ends same = cc
 
+-- the status of what was prepared, where neither memory nor a write failed
+abbrev pub Ends : Prepared → Status → Type 0
+Ends prepared result = (whole : Output) → IsOutputOf whole prepared → result ≢ Memory → result ≢ WriteFault → result ≡ whole.status
+
 -- a status that is the search's, unless memory or a write failed, is not of a read or of words
-pub search_result : (limit count : ℕ) (events : List Event) (status other : Status) → (status ≢ Memory → status ≢ WriteFault → status ≡ (horn_written limit count events).status) → (other ≡ ReadFault) ⊎ (other ≡ Words) → status ≡ other → ⊥
-search_result limit count events status other ends (inl read) same = not_read _ (written-ends limit count events) (sym (ends (λ m. cc) (λ w. cc)) ∙ same ∙ read)
-search_result limit count events status other ends (inr words) same = not_words _ (written-ends limit count events) (sym (ends (λ m. cc) (λ w. cc)) ∙ same ∙ words)
+search_result : (job : Job) (whole : Output) (status other : Status) → IsOutputOf whole (Search job) → Ends (Search job) status → (other ≡ ReadFault) ⊎ (other ≡ Words) → status ≡ other → ⊥
+search_result job whole status other is ends (inl read) same = not_read _ (search-ends job whole is) (sym (ends whole is (λ m. cc) (λ w. cc)) ∙ same ∙ read)
+search_result job whole status other is ends (inr words) same = not_words _ (search-ends job whole is) (sym (ends whole is (λ m. cc) (λ w. cc)) ∙ same ∙ words)
 
 appended-weaker : (t₀ t₁ : Option (List ℕ)) (P Q : List ℕ → Type 0) → ((a : List ℕ) → P a → Q a) → Appended t₀ t₁ P → Appended t₀ t₁ Q
 appended-weaker None t₁ P Q weaker p = tt
 appended-weaker (Some old) t₁ P Q weaker p = (p.0, p.1, weaker p.0 p.2)
 
+-- what was prepared was written
+abbrev pub WritesPrepared : Prepared → Status → (before after : Option (List ℕ)) → Type 0
+WritesPrepared prepared result t₀ t₁ = (whole : Output) → IsOutputOf whole prepared → Appended t₀ t₁ (IsWritten whole result)
+
 -- what was prepared was written, so the run's output was
-pub whole-run : (known : Option (List FileEntry)) (words : List (List ℕ)) (read_failed : Type 0) (prepared : Prepared) (result : Status) (t₀ t₁ : Option (List ℕ)) → IfSome known (λ files. Prepares words files prepared) → (status_of prepared ≡ Some ReadFault → read_failed) → (IsSome (status_of prepared) → result ≢ Memory) → (result ≢ Memory → result ≢ WriteFault → result ≡ (prepared_output prepared).status) → Appended t₀ t₁ (IsWritten (prepared_output prepared) result) → IfSome known (λ files. Appended t₀ t₁ (IsRunOf words files read_failed result))
+pub whole-run : (known : Option (List FileEntry)) (words : List (List ℕ)) (read_failed : Type 0) (prepared : Prepared) (result : Status) (t₀ t₁ : Option (List ℕ)) → IfSome known (λ files. Prepares words files prepared) → (status_of prepared ≡ Some ReadFault → read_failed) → (IsSome (status_of prepared) → result ≢ Memory) → Ends prepared result → WritesPrepared prepared result t₀ t₁ → IfSome known (λ files. Appended t₀ t₁ (IsRunOf words files read_failed result))
 whole-run None words read_failed prepared result t₀ t₁ prepares rose no_memory ends part = tt
 whole-run (Some files) words read_failed (Search job) result t₀ t₁ prepares rose no_memory ends part =
-    appended-weaker t₀ t₁ _ _ (λ bytes. exact-run words files read_failed (search_output job) result bytes prepares (λ read. search_result job.answers 0 (horn_events job.horn job.steps (reading job.horn job.machine)) result ReadFault ends (inl refl) read)) part
+    appended-weaker t₀ t₁ _ _ (λ bytes. exact-run words files read_failed (output words files) result bytes refl (λ read. search_result job (output words files) result ReadFault prepares ends (inl refl) read)) (part (output words files) prepares)
 whole-run (Some files) words read_failed (Line text ReadFault) result t₀ t₁ prepares rose no_memory ends part =
-    appended-weaker t₀ t₁ _ _ (λ bytes. read-run words files read_failed (string_bytes text) result bytes prepares (rose refl) (no_memory refl) ends) part
+    appended-weaker t₀ t₁ _ _ (λ bytes. read-run words files read_failed (string_bytes text) result bytes prepares (rose refl) (no_memory refl) (ends (line_only (string_bytes text) ReadFault) refl)) (part (line_only (string_bytes text) ReadFault) refl)
 whole-run (Some files) words read_failed (Line text status) result t₀ t₁ prepares rose no_memory ends part =
-    appended-weaker t₀ t₁ _ _ (λ bytes. exact-run words files read_failed (line_only (string_bytes text) status) result bytes prepares (λ read. absurd (let e = ends (no_memory refl) (λ w. cc) in cc))) part
+    appended-weaker t₀ t₁ _ _ (λ bytes. exact-run words files read_failed (line_only (string_bytes text) status) result bytes prepares (λ read. absurd (let e = ends (line_only (string_bytes text) status) refl (no_memory refl) (λ w. cc) in cc))) (part (line_only (string_bytes text) status) refl)
 
 -- only the line of a failed read, or of bad words, has that status
-pub whole-fault : (prepared : Prepared) (result other : Status) → (other ≡ ReadFault) ⊎ (other ≡ Words) → (result ≢ Memory → result ≢ WriteFault → result ≡ (prepared_output prepared).status) → result ≡ other → status_of prepared ≡ Some other
-whole-fault (Search job) result other which ends same = absurd (search_result job.answers 0 (horn_events job.horn job.steps (reading job.horn job.machine)) result other ends which same)
-whole-fault (Line text status) result other (inl read) ends same = let e = ends (λ m. cc) (λ w. cc) in cc
-whole-fault (Line text status) result other (inr words) ends same = let e = ends (λ m. cc) (λ w. cc) in cc
+pub whole-fault : (prepared : Prepared) (result other : Status) → HasSomeOutput prepared → (other ≡ ReadFault) ⊎ (other ≡ Words) → Ends prepared result → result ≡ other → status_of prepared ≡ Some other
+whole-fault (Search job) result other some which ends same = absurd (search_result job some.0 result other some.1 ends which same)
+whole-fault (Line text status) result other some (inl read) ends same = let e = ends (line_only (string_bytes text) status) refl (λ m. cc) (λ w. cc) in cc
+whole-fault (Line text status) result other some (inr words) ends same = let e = ends (line_only (string_bytes text) status) refl (λ m. cc) (λ w. cc) in cc
 
 -- the status of what was prepared is one that the run may answer
-status-of : (words : List (List ℕ)) (files : List FileEntry) (prepared : Prepared) (result : Status) → Prepares words files prepared → (result ≢ Memory → result ≢ WriteFault → result ≡ (prepared_output prepared).status) → IsStatusOf words files result
+status-of : (words : List (List ℕ)) (files : List FileEntry) (prepared : Prepared) (result : Status) → Prepares words files prepared → Ends prepared result → IsStatusOf words files result
 status-of words files prepared Memory prepares ends = tt
 status-of words files prepared WriteFault prepares ends = tt
-status-of words files (Search job) ReadFault prepares ends = absurd (search_result job.answers 0 (horn_events job.horn job.steps (reading job.horn job.machine)) ReadFault ReadFault ends (inl refl) refl)
-status-of words files (Search job) status prepares ends = ends (λ m. cc) (λ w. cc) ∙ ap (λ (o : Output). o.status) (sym prepares)
+status-of words files (Search job) ReadFault prepares ends = absurd (search_result job (output words files) ReadFault ReadFault prepares ends (inl refl) refl)
+status-of words files (Search job) status prepares ends = ends (output words files) prepares (λ m. cc) (λ w. cc)
 status-of words files (Line text ReadFault) ReadFault prepares ends = (prepares.0, prepares.1)
-status-of words files (Line text ReadFault) status prepares ends = absurd (let e = ends (λ m. cc) (λ w. cc) in cc)
-status-of words files (Line text line_status) ReadFault prepares ends = absurd (let e = ends (λ m. cc) (λ w. cc) in cc)
-status-of words files (Line text line_status) status prepares ends = ends (λ m. cc) (λ w. cc) ∙ ap (λ (o : Output). o.status) (sym prepares)
+status-of words files (Line text ReadFault) status prepares ends = absurd (let e = ends (line_only (string_bytes text) ReadFault) refl (λ m. cc) (λ w. cc) in cc)
+status-of words files (Line text line_status) ReadFault prepares ends = absurd (let e = ends (line_only (string_bytes text) line_status) refl (λ m. cc) (λ w. cc) in cc)
+status-of words files (Line text line_status) status prepares ends = ends (output words files) prepares (λ m. cc) (λ w. cc)
 
-pub whole-status : (known : Option (List FileEntry)) (words : List (List ℕ)) (prepared : Prepared) (result : Status) → IfSome known (λ files. Prepares words files prepared) → (result ≢ Memory → result ≢ WriteFault → result ≡ (prepared_output prepared).status) → IfSome known (λ files. IsStatusOf words files result)
+pub whole-status : (known : Option (List FileEntry)) (words : List (List ℕ)) (prepared : Prepared) (result : Status) → IfSome known (λ files. Prepares words files prepared) → Ends prepared result → IfSome known (λ files. IsStatusOf words files result)
 whole-status None words prepared result prepares ends = tt
 whole-status (Some files) words prepared result prepares ends = status-of words files prepared result prepares ends
+
+-- a command's file, by its name
+command-file : (words : List (List ℕ)) (told : List FileEntry) (steps answers query file : ℕ) → command words ≡ Ok (Run steps answers query (file ∷ []))
+    → output words told ≡ files_output steps answers (word_at words query) (with_file (word_at words file) (bytes_of told (word_at words file)) (Ok []))
+command-file words told steps answers query file is = ap (command_output words told) is
+
+-- what was loaded of it is what the run prepares
+loads-prepares : (words : List (List ℕ)) (told : List FileEntry) (steps answers query file : ℕ) (prepared : Prepared) → command words ≡ Ok (Run steps answers query (file ∷ []))
+    → Loads (word_at words file) (bytes_of told (word_at words file)) (files_output steps answers (word_at words query) (with_file (word_at words file) (bytes_of told (word_at words file)) (Ok []))) prepared → Prepares words told prepared
+loads-prepares words told steps answers query file (Search job) is loads = subst (λ (o : Output). IsOutputOf o (Search job)) (sym (command-file words told steps answers query file is)) loads
+loads-prepares words told steps answers query file (Line text ReadFault) is loads =
+    (word_at words file, (([], [], ap (file_names words) is, tt), loads.0), loads.1)
+loads-prepares words told steps answers query file (Line text status) is loads = command-file words told steps answers query file is ∙ loads
+
+-- so for the files that a command may read
+pub command-prepares : {E : Type 0} (words : List (List ℕ)) (told : Option (List FileEntry)) (steps answers query file : ℕ) (name text : List ℕ) (r : Result Prepared E) → command words ≡ Ok (Run steps answers query (file ∷ []))
+    → word_at words file ≡ name → word_at words query ≡ text
+    → IfOk r (λ prepared. IfSome told (λ files. Loads name (bytes_of files name) (files_output steps answers text (with_file name (bytes_of files name) (Ok []))) prepared))
+    → IfOk r (λ prepared. IfSome (known_files words told) (λ files. Prepares words files prepared))
+command-prepares words told steps answers query file name text (Err e) is named asked loads = tt
+command-prepares words None steps answers query file name text (Ok prepared) is named asked loads = rw (ap (λ (c : Result Command ℕ). files_for (file_names words c) None) is) tt
+command-prepares words (Some files) steps answers query file name text (Ok prepared) is named asked loads =
+    rw (ap (λ (c : Result Command ℕ). files_for (file_names words c) (Some files)) is)
+    (loads-prepares words files steps answers query file prepared is (rw (named, asked) loads))

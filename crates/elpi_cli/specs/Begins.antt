@@ -1,5 +1,5 @@
 -- What reading the texts gives the search.
-use Rattle.std.specs.Prelude.{◌≡◌, ℕ, List, [], ◌∷◌, true, false, map, ⊤, None, Some, Ok, Err, codes, if◌then◌else◌}
+use Rattle.std.specs.Prelude.{◌≡◌, ℕ, List, [], ◌∷◌, true, ⊤, None, Some, Ok, Err, codes, if◌then◌else◌}
 use Rattle.std.specs.String.{string_bytes}
 use Rattle.std.specs.declared.result.Result.{Result}
 use Rattle.lam_io.specs.declared.byte_text.FileEntry.{FileEntry}
@@ -12,22 +12,18 @@ use Rattle.lp_parser.specs.declared.error.ParseError.TheVariants as parser
 use Rattle.lp_resolve.specs.declared.program.Program.{Program}
 use Rattle.lp_resolve.specs.declared.query.Query.{Query}
 use Rattle.lp_resolve.specs.StaticRules.{Breach, first_breach}
-use Rattle.lp_resolve.specs.Plain.{plain_term, plain_clause}
-use Rattle.elpi_cli.specs.declared.horn.Span.{Span}
-use Rattle.elpi_cli.specs.declared.horn.Horn.{Horn}
+use Rattle.lp_resolve.specs.Plain.{plain_program, plain_query}
+use Rattle.ref_terms.specs.search.Events.{first_state}
 use Rattle.elpi_cli.specs.declared.built.Engine.{Engine}
 use Rattle.elpi_cli.specs.declared.texts.TextStop.{TextStop}
 use Rattle.elpi_cli.specs.declared.texts.TextStop.TheVariants.{Refused, Memory}
-use Rattle.elpi_cli.specs.inside.HornSearch.{running}
-use Rattle.elpi_cli.specs.inside.HornProgram.{span_term, clause_term, IsProgram}
-use Rattle.elpi_cli.specs.inside.HornOutput.{horn_events, horn_written}
-use Rattle.elpi_cli.specs.Reading.{reading}
+use Rattle.goal_run.specs.Machine.{Runs, state_of}
+use Rattle.elpi_cli.specs.inside.Searching.{HasOutput}
 use Rattle.elpi_cli.specs.Output.{line_only, searched}
 use Rattle.elpi_cli.specs.Top.{texts_output}
 use Rattle.elpi_cli.specs.declared.status.Status.TheVariants as Status
-use Rattle.elpi_cli.specs.inside.Conversion.{IsProgramOf, IsQueryOf}
 use Rattle.elpi_cli.specs.Resolved.{program_table, resolved_program, searched_program, searched_query}
-use Rattle.elpi_cli.specs.Forms.{are_built_as, is_horn_query}
+use Rattle.elpi_cli.specs.Forms.{are_built_as, is_built_query}
 use Rattle.elpi_cli.specs.Texts.{FileItems, all_items, file_of, grammar_name, grammar_line}
 use Rattle.elpi_cli.specs.Built.{unbuilt_query, unbuilt_text, not_yet_line}
 use Rattle.elpi_cli.specs.Static.{breach_line}
@@ -74,34 +70,30 @@ abbrev pub ChecksProgram : List FileEntry → List Item → (table : List (List 
 ChecksProgram files items table (Ok program) = IsCheckedOf items table program
 ChecksProgram files items table (Err stop) = IsBroken files items stop
 
--- what building a program may answer: the program, or the line of its file, where it isn't built
-abbrev pub BuildsProgram : (name : List ℕ) → List Item → Program → Result Horn TextStop → Type 0
-BuildsProgram name items program (Ok horn) = (are_built_as items program ≡ true) × IsProgramOf program.clauses horn
-BuildsProgram name items program (Err (Refused last)) = (are_built_as items program ≡ false) × (string_bytes last ≡ not_yet_line name)
-BuildsProgram name items program (Err Memory) = ⊤
+-- the first of both texts that isn't built has this name
+abbrev pub IsUnbuiltOf : (name : List ℕ) → List Item → Program → Query → (text : List ℕ) → Type 0
+IsUnbuiltOf name items program query text = (if are_built_as items program then unbuilt_query (is_built_query query) else Some name) ≡ Some text
 
--- what building a query may answer
-abbrev pub BuildsQuery : Query → (old horn : Horn) → Result Span TextStop → Type 0
-BuildsQuery query old horn (Ok span) = IsQueryOf query old horn span
-BuildsQuery query old horn (Err (Refused last)) = (is_horn_query query ≡ false) × (string_bytes last ≡ not_yet_line (codes "query"))
-BuildsQuery query old horn (Err Memory) = ⊤
+-- what looking at their forms may answer
+abbrev pub FormsAreBuilt : {A : Type 0} → (name : List ℕ) → List Item → Program → Query → Result A TextStop → Type 0
+FormsAreBuilt name items program query (Ok done) = (are_built_as items program ≡ true) × (is_built_query query ≡ true)
+FormsAreBuilt name items program query (Err (Refused last)) = (text : List ℕ) × IsUnbuiltOf name items program query text × (string_bytes last ≡ not_yet_line text)
+FormsAreBuilt name items program query (Err Memory) = ⊤
 
--- the engine for this query over this program of these items, all of which are built
-pub record IsEngineFor (items : List Item) (program : Program) (query : Query) (engine : Engine) : Type 0 where
+-- the engine for this query over this program of these items, all of which are built, with this table
+pub record IsEngineFor (items : List Item) (program : Program) (query : Query) (table : List (List ℕ)) (engine : Engine) : Type 0 where
   pub built : are_built_as items program ≡ true
-  pub query_built : is_horn_query query ≡ true
-  pub program_is : IsProgram engine.horn
-  pub clauses : map (clause_term engine.horn.atoms) engine.horn.clauses ≡ map plain_clause program.clauses
-  pub span : Span
-  pub goal : span_term engine.horn.atoms span ≡ plain_term query.goal
-  pub begins : reading engine.horn engine.machine ≡ running (span ∷ []) []
+  pub query_built : is_built_query query ≡ true
+  pub symbols : engine.symbols ≡ table
+  pub runs : Runs engine.machine (plain_program table program)
+  pub begins : state_of (plain_program table program) engine.machine ≡ first_state (plain_query query)
+  pub variables : engine.machine.variables ≡ query.vars
 
 -- what building it may answer
-abbrev pub BuildsBoth : (name : List ℕ) → List Item → Program → Query → Result Engine TextStop → Type 0
-BuildsBoth name items program query (Ok engine) = IsEngineFor items program query engine
-BuildsBoth name items program query (Err (Refused last)) =
-    (text : List ℕ) × ((if are_built_as items program then unbuilt_query (is_horn_query query) else Some name) ≡ Some text) × (string_bytes last ≡ not_yet_line text)
-BuildsBoth name items program query (Err Memory) = ⊤
+abbrev pub BuildsBoth : (name : List ℕ) → List Item → Program → Query → (table : List (List ℕ)) → Result Engine TextStop → Type 0
+BuildsBoth name items program query table (Ok engine) = IsEngineFor items program query table engine
+BuildsBoth name items program query table (Err (Refused last)) = (text : List ℕ) × IsUnbuiltOf name items program query text × (string_bytes last ≡ not_yet_line text)
+BuildsBoth name items program query table (Err Memory) = ⊤
 
 -- the one file of this name with these items
 abbrev pub one : (name : List ℕ) → List Item → List FileItems
@@ -110,8 +102,8 @@ one name items = file_of name items ∷ []
 -- the search of a goal over the items of a file, which are built
 pub record IsEngineOf (name : List ℕ) (items : List Item) (goal : AstTerm) (engine : Engine) : Type 0 where
   pub built : unbuilt_text (one name items) goal ≡ None
-  pub output : (steps limit : ℕ) → horn_written limit 0 (horn_events engine.horn steps (reading engine.horn engine.machine))
-      ≡ searched (searched_program (all_items (one name items)) goal) (searched_query (all_items (one name items)) goal) steps limit
+  pub output : (steps limit : ℕ) → HasOutput engine.symbols engine.machine steps limit
+      (searched (searched_program (all_items (one name items)) goal) (searched_query (all_items (one name items)) goal) steps limit)
 
 -- a text isn't built, and the line names the first, unless memory is wanting
 abbrev pub IsUnbuilt : (name : List ℕ) → List Item → AstTerm → TextStop → Type 0
@@ -126,6 +118,6 @@ BuildsEngine name items goal (Err stop) = IsUnbuilt name items goal stop
 -- What the texts behind the file's items may give: the engine that writes the output of the run, for any limits, or the
 -- line that is this output, where one of the texts is refused.
 abbrev pub BeginsRun : FileEntry → List Item → (query : List ℕ) → Result Engine TextStop → Type 0
-BeginsRun file items query (Ok engine) = (steps limit : ℕ) → texts_output steps limit query (file ∷ []) (Ok (one file.name items)) ≡ horn_written limit 0 (horn_events engine.horn steps (reading engine.horn engine.machine))
+BeginsRun file items query (Ok engine) = (steps limit : ℕ) → HasOutput engine.symbols engine.machine steps limit (texts_output steps limit query (file ∷ []) (Ok (one file.name items)))
 BeginsRun file items query (Err (Refused last)) = (steps limit : ℕ) → texts_output steps limit query (file ∷ []) (Ok (one file.name items)) ≡ line_only (string_bytes last) Status.Refused
 BeginsRun file items query (Err Memory) = ⊤

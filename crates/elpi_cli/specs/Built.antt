@@ -5,7 +5,7 @@ use Rattle.std.specs.declared.option.Option.TheVariants.{None, Some}
 use Rattle.lp_parser.specs.declared.ast.AstTerm.{AstTerm}
 use Rattle.elpi_cli.specs.Output.{line}
 use Rattle.elpi_cli.specs.Resolved.{resolved_query}
-use Rattle.elpi_cli.specs.Forms.{are_built, is_horn_query}
+use Rattle.elpi_cli.specs.Forms.{are_built, is_built_query}
 use Rattle.elpi_cli.specs.Texts.{FileItems, all_items}
 
 -- the name of the query, where it isn't built
@@ -19,7 +19,7 @@ unbuilt_from (f ∷ fs) is_query_built = if are_built f.items then unbuilt_from 
 
 -- the name of the first text that isn't built: a file, in word order, or the query
 abbrev pub unbuilt_text : List FileItems → AstTerm → Option (List ℕ)
-unbuilt_text files goal = unbuilt_from files (is_horn_query (resolved_query (all_items files) goal))
+unbuilt_text files goal = unbuilt_from files (is_built_query (resolved_query (all_items files) goal))
 
 -- the line of a text whose form isn't built
 abbrev pub not_yet_line : List ℕ → List ℕ

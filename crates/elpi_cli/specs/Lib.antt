@@ -5,7 +5,6 @@ pub mod ExitStatus
 pub mod Forms
 pub mod Output
 pub mod Positions
-pub mod Reading
 pub mod Resolved
 pub mod Static
 pub mod Texts

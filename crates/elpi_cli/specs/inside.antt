@@ -1,5 +1,2 @@
-pub mod Conversion
-pub mod HornOutput
-pub mod HornProgram
-pub mod HornSearch
 pub mod Prepared
+pub mod Searching

@@ -1,24 +1,23 @@
-// From resolved programs and queries to the engine, or the refusal of the first text that isn't built.
+// From resolved programs and queries to the machine, or the refusal of the first text that isn't built.
 ghost use Rattle.std.specs.Prelude.{◌≡◌, IfOk};
 ghost use Rattle.std.specs.String.{string_bytes};
-ghost use Rattle.elpi_cli.specs.inside.HornProgram.{IsProgram};
+ghost use Rattle.lp_resolve.specs.Queries.{IsFormedQuery};
 ghost use Rattle.elpi_cli.specs.Resolved.{program_table, resolved_program};
 ghost use Rattle.elpi_cli.specs.Built.{not_yet_line};
-ghost use Rattle.elpi_cli.specs.Begins.{IsRefusal, BuildsProgram, BuildsQuery, BuildsBoth, BuildsEngine};
+ghost use Rattle.elpi_cli.specs.Begins.{IsRefusal, FormsAreBuilt, BuildsBoth, BuildsEngine};
 
-use crate::convert::{are_clauses, horn_program, horn_query};
-use crate::horn::{Horn, Span};
-use crate::machine::Machine;
+use crate::forms::{are_built_clauses, are_no_blocks, is_built_query};
 use crate::texts::TextStop;
+use goal_run::Machine;
 use lp_parser::{Ast, AstGoal};
 use lp_resolve::{Checked, Query, Symbols, resolve_query};
 use std::alloc::{AllocError, Global};
 
-/// What runs a query: the program, and the machine in its first state.
-#[derive(Debug, Drop)]
+/// What runs a query: the machine in its first state, and the texts of symbols.
+#[derive(Drop)]
 pub struct Engine {
-    pub horn: Horn,
     pub machine: Machine,
+    pub symbols: Symbols,
 }
 
 // The refusal of a text whose form isn't built.
@@ -37,30 +36,27 @@ fn not_yet_text(alloc: Global, name: &str) -> Result<String, AllocError>
     format!(in alloc; "refused: {name}: not yet\n")
 }
 
-// The program of the file of this name, or the refusal of the file.
-fn build_program(alloc: Global, name: &str, ast: &Ast, checked: &Checked) -> Result<Horn, TextStop>
-    ensures { BuildsProgram name.now ast.now checked.now result }
+// Nothing, where the program, whose items stand in the file of this name, and the query are built; or else the refusal
+// of the first of them that isn't.
+fn check_forms(
+    alloc: Global,
+    name: &str,
+    ast: &Ast,
+    checked: &Checked,
+    query: &Query,
+) -> Result<(), TextStop>
+    ensures { FormsAreBuilt name.now ast.now checked.now query.now result }
 {
-    if !are_clauses(ast.as_slice()) {
+    if !are_no_blocks(ast.as_slice()) {
         return Err(not_yet(alloc, name));
     }
-    match horn_program(alloc, checked.program().clauses.as_slice()) {
-        Err(_) => Err(TextStop::Memory),
-        Ok(None) => Err(not_yet(alloc, name)),
-        Ok(Some(horn)) => Ok(horn),
+    if !are_built_clauses(checked.program().clauses.as_slice()) {
+        return Err(not_yet(alloc, name));
     }
-}
-
-// The goal of a query, whose atoms the program gets, or the refusal of the query.
-fn build_query(alloc: Global, query: &Query, horn: &mut Horn) -> Result<Span, TextStop>
-    requires { IsProgram horn.old }
-    ensures { BuildsQuery query.now horn.old horn.new result }
-{
-    match horn_query(alloc, query, horn) {
-        Err(_) => Err(TextStop::Memory),
-        Ok(None) => Err(not_yet(alloc, "query")),
-        Ok(Some(span)) => Ok(span),
+    if !is_built_query(query) {
+        return Err(not_yet(alloc, "query"));
     }
+    Ok(())
 }
 
 // The engine for a query over a program, whose items stand in the file of this name, or the refusal of the first of
@@ -71,17 +67,16 @@ fn build_both(
     ast: &Ast,
     checked: &Checked,
     query: &Query,
+    symbols: Symbols,
 ) -> Result<Engine, TextStop>
-    ensures { BuildsBoth name.now ast.now checked.now query.now result }
+    requires { IsFormedQuery query.now }
+    ensures { BuildsBoth name.now ast.now checked.now query.now symbols result }
 {
-    match build_program(alloc, name, ast, checked) {
+    match check_forms(alloc, name, ast, checked, query) {
         Err(stop) => Err(stop),
-        Ok(mut horn) => match build_query(alloc, query, &mut horn) {
-            Err(stop) => Err(stop),
-            Ok(span) => match Machine::start(alloc, span) {
-                Err(_) => Err(TextStop::Memory),
-                Ok(machine) => Ok(Engine { horn, machine }),
-            },
+        Ok(()) => match Machine::start(alloc, checked, query) {
+            Err(_) => Err(TextStop::Memory),
+            Ok(machine) => Ok(Engine { machine, symbols }),
         },
     }
 }
@@ -93,14 +88,14 @@ pub fn build_engine(
     ast: &Ast,
     checked: &Checked,
     goal: &AstGoal,
-    symbols: &mut Symbols,
+    mut symbols: Symbols,
 ) -> Result<Engine, TextStop>
-    requires table { symbols.old ≡ program_table ast.now }
+    requires table { symbols ≡ program_table ast.now }
     requires program { checked.now ≡ resolved_program ast.now }
     ensures { BuildsEngine name.now ast.now goal.now.term result }
 {
-    match resolve_query(alloc, goal, symbols) {
+    match resolve_query(alloc, goal, &mut symbols) {
         Err(_) => Err(TextStop::Memory),
-        Ok(query) => build_both(alloc, name, ast, checked, &query),
+        Ok(query) => build_both(alloc, name, ast, checked, &query, symbols),
     }
 }

@@ -3,12 +3,9 @@
 #![tactic(auto)]
 
 mod built;
-mod convert;
-mod horn;
-mod machine;
+mod forms;
 mod positions;
 mod search;
-mod stack;
 mod static_rules;
 mod status;
 mod texts;
@@ -16,10 +13,7 @@ mod top;
 mod words;
 
 pub use built::Engine;
-pub use horn::{Atom, Horn, HornClause, Span};
-pub use machine::{Alternative, Event, Machine, Phase};
 pub use search::{answer_query, close};
-pub use stack::Stack;
 pub use status::Status;
 pub use top::run;
 pub use words::{Command, WordsStop, read_words};

@@ -1,17 +1,19 @@
 // The search of a run, from its first state to its last line.
-ghost use Rattle.std.specs.Prelude.{◌≡◌, ◌≢◌, ◌++◌, ◌∷◌, [], List, ◌+◌, ◌-◌, ◌^◌, ◌<◌, ◌≤◌, OnOk, OnErr, IfOk, IfErr, codes};
+ghost use Rattle.std.specs.Prelude.{◌≡◌, ◌≢◌, ◌++◌, ◌∷◌, [], List, ◌+◌, ◌-◌, ◌^◌, ◌<◌, ◌≤◌, OnOk, OnErr, IfOk, IfErr, codes, map};
 ghost use Rattle.std.specs.String.{string_bytes};
-ghost use Rattle.elpi_cli.specs.Output.{Output, line, line_only, preceded};
 ghost use Rattle.ref_terms.specs.search.Fault.{fault_name};
-ghost use Rattle.elpi_cli.specs.inside.HornOutput.{horn_events, followed, horn_written, plain_block};
+ghost use Rattle.ref_terms.specs.search.State as reference;
+ghost use Rattle.ref_terms.specs.texts.Answer.{answer_block};
+ghost use Rattle.lp_resolve.specs.Plain.{plain_variable};
+ghost use Rattle.goal_run.specs.Machine.{event_of, branch_of};
+ghost use Rattle.elpi_cli.specs.Output.{Output, line, line_only, preceded, written};
 ghost use Rattle.elpi_cli.specs.Written.{Emits, Progress, all_of};
-ghost use Rattle.elpi_cli.specs.Reading.{reading};
-ghost use Rattle.elpi_cli.specs.declared.machine.Event.{Event};
+ghost use Rattle.elpi_cli.specs.inside.Searching.{followed, HasOutput};
 
-use crate::horn::Horn;
-use crate::machine::{Event, Machine};
 use crate::status::Status;
+use goal_run::{Event, Machine};
 use lam_io::{Sink, SinkFailed};
+use lp_resolve::Symbols;
 use ref_terms::Fault;
 use std::alloc::{AllocError, Global};
 
@@ -38,32 +40,33 @@ fn emit<K: Sink>(sink: &mut K, piece: &[u8]) -> Result<(), SinkFailed>
     sink.write(piece)
 }
 
-fn answer_text(alloc: Global, number: u64) -> Result<String, AllocError>
-    ensures { IfOk result (λ text. string_bytes text ≡ plain_block number) }
-{
-    format!(in alloc; "answer {number}\n")
-}
-
-// Writes what an event asks for. A status ends the search.
+// Writes what an event of a machine asks for. A status ends the search.
 fn observe<K: Sink>(
     alloc: Global,
+    symbols: &Symbols,
+    machine: &mut Machine,
     event: Event,
     limit: u64,
     count: &mut u64,
     sink: &mut K,
 ) -> Result<(), Status>
     requires { count.old < 2 ^ 64 - 1 }
+    ensures machine { machine.new ≡ machine.old }
     ensures count { count.new ≤ count.old + 1 }
-    ensures goes_on { OnOk result ((later : List Event) → Progress K.told K.faults K.stopped sink.old sink.new
-        (horn_written limit count.new later) (horn_written limit count.old (followed event later))) }
-    ensures ends { IfErr result (λ status. (later : List Event) → Emits K.told K.faults K.stopped sink.old sink.new
-        (horn_written limit count.old (followed event later)) status) }
+    ensures goes_on { OnOk result ((later : List reference.Event) → Progress K.told K.faults K.stopped sink.old sink.new
+        (written symbols.now (map plain_variable machine.old.variables) limit count.new later) (written symbols.now (map plain_variable machine.old.variables) limit count.old (followed (event_of machine.old event) later))) }
+    ensures ends { IfErr result (λ status. (later : List reference.Event) → Emits K.told K.faults K.stopped sink.old sink.new
+        (written symbols.now (map plain_variable machine.old.variables) limit count.old (followed (event_of machine.old event) later)) status) }
 {
     match event {
         Event::Moved => Ok(()),
-        Event::Answered => {
+        Event::Printed(text) => match emit(sink, text.as_slice()) {
+            Err(_) => Err(Status::WriteFault),
+            Ok(()) => Ok(()),
+        },
+        Event::Answer => {
             *count += 1;
-            match write_answer(alloc, *count, sink) {
+            match write_answer(symbols, machine, *count, sink) {
                 Err(status) => Err(status),
                 Ok(()) if *count == limit => Err(close(sink, b"stopped\n", Status::Done)),
                 Ok(()) => Ok(()),
@@ -74,7 +77,7 @@ fn observe<K: Sink>(
         } else {
             close(sink, b"no more\n", Status::Done)
         }),
-        Event::Faulted(fault) => Err(write_fault(alloc, fault, sink)),
+        Event::Fault(fault) => Err(write_fault(alloc, fault, sink)),
     }
 }
 
@@ -95,39 +98,47 @@ fn fault_text(alloc: Global, fault: Fault) -> Result<String, AllocError>
     format!(in alloc; "fault: {name}\n")
 }
 
-// Writes the block of an answer.
-fn write_answer<K: Sink>(alloc: Global, number: u64, sink: &mut K) -> Result<(), Status>
-    ensures goes_on { OnOk result (Emits K.told K.faults K.stopped sink.old sink.new (all_of (plain_block number ∷ [])) Status.Done) }
+// Writes the block of an answer, which has this number.
+fn write_answer<K: Sink>(
+    symbols: &Symbols,
+    machine: &mut Machine,
+    number: u64,
+    sink: &mut K,
+) -> Result<(), Status>
+    ensures machine { machine.new ≡ machine.old }
+    ensures goes_on { OnOk result (Emits K.told K.faults K.stopped sink.old sink.new
+        (all_of (answer_block symbols.now (map plain_variable machine.old.variables) number (branch_of machine.old) ∷ [])) Status.Done) }
     ensures ends { IfErr result (λ status. (rest : Output) → Emits K.told K.faults K.stopped sink.old sink.new
-        (preceded (plain_block number ∷ []) rest) status) }
+        (preceded (answer_block symbols.now (map plain_variable machine.old.variables) number (branch_of machine.old) ∷ []) rest) status) }
 {
-    match answer_text(alloc, number) {
+    match machine.answer_text(symbols, number) {
         Err(_) => Err(Status::Memory),
-        Ok(block) => match emit(sink, block.as_bytes()) {
+        Ok(block) => match emit(sink, block.as_slice()) {
             Err(_) => Err(Status::WriteFault),
             Ok(()) => Ok(()),
         },
     }
 }
 
-// Makes at most so many moves, and writes a block for each answer up to the limit, which 0 leaves out.
+/// Makes at most so many moves, and writes a block for each answer up to the limit, which 0 leaves out. A goal of a form
+/// that isn't built ends the search as want of memory does; no text that is built has its word.
 pub fn answer_query<K: Sink>(
     alloc: Global,
-    horn: &Horn,
+    symbols: &Symbols,
     machine: &mut Machine,
     steps: u64,
     limit: u64,
     sink: &mut K,
 ) -> Status
-    ensures { Emits K.told K.faults K.stopped sink.old sink.new
-        (horn_written limit 0 (horn_events horn.now steps (reading horn.now machine.old))) result }
+    requires { (whole : Output) × HasOutput symbols.now machine.old steps limit whole }
+    ensures { (whole : Output) → HasOutput symbols.now machine.old steps limit whole → Emits K.told K.faults K.stopped sink.old sink.new whole result }
 {
     let mut count = 0;
     for made in 0..steps {
-        let Ok(event) = machine.step(horn) else {
+        let Ok(event) = machine.step(symbols) else {
             return Status::Memory;
         };
-        match observe(alloc, event, limit, &mut count, sink) {
+        match observe(alloc, symbols, machine, event, limit, &mut count, sink) {
             Ok(()) => {}
             Err(status) => return status,
         }

@@ -4,24 +4,23 @@ ghost use Rattle.std.specs.String.{string_bytes};
 ghost use Rattle.lam_io.specs.Faults.{Rose, HasCause};
 ghost use Rattle.lam_io.specs.Reads.{bytes_of};
 ghost use Rattle.lam_io.specs.Writes.{Appended};
-ghost use Rattle.elpi_cli.specs.Words.{texts, command};
+ghost use Rattle.elpi_cli.specs.Words.{texts, command as command_of, IsWithin};
 ghost use Rattle.elpi_cli.specs.Written.{IsStop, Emits};
 ghost use Rattle.elpi_cli.specs.Texts.{with_file, with_items, items_of};
 ghost use Rattle.elpi_cli.specs.Static.{file_entry};
-ghost use Rattle.elpi_cli.specs.Output.{line_only};
+ghost use Rattle.elpi_cli.specs.Output.{Output, line_only};
 ghost use Rattle.elpi_cli.specs.Begins.{IsRefusal, BeginsRun};
 ghost use Rattle.elpi_cli.specs.Top.{output, files_output, texts_output, word_at, known_files, IsRunOf, IsStatusOf};
 ghost use Rattle.elpi_cli.specs.Causes.{ComesBy, ComesExactlyBy, IsComplete, IsDone, IsNoAnswer, IsBadWord, IsRefused, IsFault, IsOutOfSteps, IsMissing, IsTooLong};
-ghost use Rattle.elpi_cli.specs.inside.Prepared.{Prepares, Loads, prepared_output, status_of, IsFileStatus, IsTextStatus};
+ghost use Rattle.elpi_cli.specs.inside.Prepared.{Prepares, Loads, IsOutputOf, HasSomeOutput, status_of, IsFileStatus, IsTextStatus};
 
 use crate::built::{Engine, build_engine};
-use crate::horn::Horn;
-use crate::machine::Machine;
 use crate::search::{answer_query, close};
 use crate::static_rules::check_program;
 use crate::status::Status;
 use crate::texts::{TextStop, read_goal, read_items};
 use crate::words::{Command, WordsStop, read_words};
+use goal_run::Machine;
 use lam_io::{FileFail, Files, Sink};
 use lp_parser::Ast;
 use lp_resolve::Symbols;
@@ -47,7 +46,7 @@ pub fn run<F: Files, K: Sink>(
     // A fault comes only where its count rose. Bad words have their status whatever is told of files.
     ensures read_fault { result ≡ Status.ReadFault → Rose (F.faults files.old) (F.faults files.new) }
     ensures write_fault { result ≡ Status.WriteFault → Rose (K.faults sink.old) (K.faults sink.new) }
-    ensures words { ComesExactlyBy (IsErr (command (texts words.now))) Status.Words result }
+    ensures words { ComesExactlyBy (IsErr (command_of (texts words.now))) Status.Words result }
 
     // Each other status comes exactly by its cause, unless memory, a read or a write failed; the last line tells which it was.
     ensures done { IfSome (known_files (texts words.now) (F.told files.old)) (λ told. ComesBy (IsDone (texts words.now) told) (output (texts words.now) told) Status.Done result) }
@@ -75,15 +74,16 @@ pub fn run<F: Files, K: Sink>(
 
 // Writes what was prepared.
 fn perform<K: Sink>(alloc: Global, prepared: Prepared, sink: &mut K) -> Status
-    requires { (status_of prepared ≢ Some Status.Memory) × (status_of prepared ≢ Some Status.WriteFault) }
-    ensures emits { Emits K.told K.faults K.stopped sink.old sink.new (prepared_output prepared) result }
+    requires status { (status_of prepared ≢ Some Status.Memory) × (status_of prepared ≢ Some Status.WriteFault) }
+    requires output { HasSomeOutput prepared }
+    ensures emits { (whole : Output) → IsOutputOf whole prepared → Emits K.told K.faults K.stopped sink.old sink.new whole result }
     ensures line { IsSome (status_of prepared) → result ≢ Status.Memory }
 {
     match prepared {
         Prepared::Line(line, status) => close(sink, line.as_bytes(), status),
         Prepared::Search(mut job) => answer_query(
             alloc,
-            &job.horn,
+            &job.symbols,
             &mut job.machine,
             job.steps,
             job.answers,
@@ -93,16 +93,16 @@ fn perform<K: Sink>(alloc: Global, prepared: Prepared, sink: &mut K) -> Status
 }
 
 /// A search that can begin.
-#[derive(Debug, Drop)]
+#[derive(Drop)]
 pub struct Job {
-    pub horn: Horn,
     pub machine: Machine,
+    pub symbols: Symbols,
     pub steps: u64,
     pub answers: u64,
 }
 
 /// What the words and the files give: a search, or one line and the status.
-#[derive(Debug, Drop)]
+#[derive(Drop)]
 pub enum Prepared {
     Search(Job),
     Line(String, Status),
@@ -112,8 +112,9 @@ pub enum Prepared {
 fn prepare<F: Files>(alloc: Global, words: &[String], files: &mut F) -> Result<Prepared, AllocError>
     ensures told { F.told files.new ≡ F.told files.old }
     ensures prepared { IfOk result (λ prepared. IfSome (known_files (texts words.now) (F.told files.old)) (λ told. Prepares (texts words.now) told prepared)) }
+    ensures output { IfOk result HasSomeOutput }
     ensures cause { HasCause (F.faults files.old) (F.faults files.new) (IsOkAnd result (λ prepared. status_of prepared ≡ Some Status.ReadFault)) }
-    ensures words { IfOk result (λ prepared. status_of prepared ≡ Some Status.Words → IsErr (command (texts words.now))) }
+    ensures words { IfOk result (λ prepared. status_of prepared ≡ Some Status.Words → IsErr (command_of (texts words.now))) }
     ensures ends { IfOk result (λ prepared. (status_of prepared ≢ Some Status.Memory) × (status_of prepared ≢ Some Status.WriteFault)) }
 {
     match read_words(alloc, words) {
@@ -122,25 +123,69 @@ fn prepare<F: Files>(alloc: Global, words: &[String], files: &mut F) -> Result<P
             format!(in alloc; "words: bad word at {index}\n")?,
             Status::Words,
         )),
-        Ok(
-            Command::Run {
-                steps,
-                answers,
-                query,
-                files: indices,
-            },
-        ) => {
-            let file = indices.as_slice()[0];
-            load(
-                alloc,
-                words[file].as_str(),
-                words[query].as_str(),
-                steps,
-                answers,
-                files,
-            )
-        }
+        Ok(command) => load_command(alloc, words, command, files),
     }
+}
+
+// Reads the files of a command.
+fn load_command<F: Files>(
+    alloc: Global,
+    words: &[String],
+    command: Command,
+    files: &mut F,
+) -> Result<Prepared, AllocError>
+    requires { IsWithin (length words.now) command }
+    ensures told { F.told files.new ≡ F.told files.old }
+    ensures prepared { command_of (texts words.now) ≡ Ok command → IfOk result (λ prepared. IfSome (known_files (texts words.now) (F.told files.old)) (λ told. Prepares (texts words.now) told prepared)) }
+    ensures output { IfOk result HasSomeOutput }
+    ensures cause { HasCause (F.faults files.old) (F.faults files.new) (IsOkAnd result (λ prepared. status_of prepared ≡ Some Status.ReadFault)) }
+    ensures status { IfOk result (λ prepared. IsFileStatus (status_of prepared)) }
+{
+    match command {
+        Command::Run {
+            steps,
+            answers,
+            query,
+            files: indices,
+        } => load_named(
+            alloc,
+            words,
+            steps,
+            answers,
+            query,
+            indices.as_slice()[0],
+            files,
+        ),
+    }
+}
+
+// Reads the file that the word with an index names; another word is the query.
+fn load_named<F: Files>(
+    alloc: Global,
+    words: &[String],
+    steps: u64,
+    answers: u64,
+    query: usize,
+    file: usize,
+    files: &mut F,
+) -> Result<Prepared, AllocError>
+    requires query { query < length words.now }
+    requires file { file < length words.now }
+    ensures told { F.told files.new ≡ F.told files.old }
+    ensures prepared { command_of (texts words.now) ≡ Ok (Command.Run steps answers query (file ∷ []))
+        → IfOk result (λ prepared. IfSome (known_files (texts words.now) (F.told files.old)) (λ told. Prepares (texts words.now) told prepared)) }
+    ensures output { IfOk result HasSomeOutput }
+    ensures cause { HasCause (F.faults files.old) (F.faults files.new) (IsOkAnd result (λ prepared. status_of prepared ≡ Some Status.ReadFault)) }
+    ensures status { IfOk result (λ prepared. IsFileStatus (status_of prepared)) }
+{
+    load(
+        alloc,
+        words[file].as_str(),
+        words[query].as_str(),
+        steps,
+        answers,
+        files,
+    )
 }
 
 // Reads the file and begins the search.
@@ -155,6 +200,7 @@ fn load<F: Files>(
     ensures told { F.told files.new ≡ F.told files.old }
     ensures prepared { IfOk result (λ prepared. IfSome (F.told files.old) (λ told.
         Loads name.now (bytes_of told name.now) (files_output steps answers query.now (with_file name.now (bytes_of told name.now) (Ok []))) prepared)) }
+    ensures output { IfOk result HasSomeOutput }
     ensures cause { HasCause (F.faults files.old) (F.faults files.new) (IsOkAnd result (λ prepared. status_of prepared ≡ Some Status.ReadFault)) }
     ensures status { IfOk result (λ prepared. IsFileStatus (status_of prepared)) }
 {
@@ -185,7 +231,7 @@ fn begin(
     answers: u64,
     text: &[u8],
 ) -> Result<Prepared, AllocError>
-    ensures prepared { IfOk result (λ prepared. texts_output steps answers query.now (file_entry name.now text.now ∷ []) (with_items name.now (items_of name.now 0 text.now) (Ok [])) ≡ prepared_output prepared) }
+    ensures prepared { IfOk result (IsOutputOf (texts_output steps answers query.now (file_entry name.now text.now ∷ []) (with_items name.now (items_of name.now 0 text.now) (Ok [])))) }
     ensures status { IfOk result (λ prepared. IsTextStatus (status_of prepared)) }
 {
     match read_items(alloc, name, text) {
@@ -193,8 +239,8 @@ fn begin(
         Ok(ast) => match engine_for(alloc, name, query, text, &ast) {
             Err(stop) => refused(stop),
             Ok(engine) => Ok(Prepared::Search(Job {
-                horn: engine.horn,
                 machine: engine.machine,
+                symbols: engine.symbols,
                 steps,
                 answers,
             })),
@@ -217,14 +263,15 @@ fn engine_for(
         Err(stop) => Err(stop),
         Ok(checked) => match read_goal(alloc, query.as_bytes()) {
             Err(stop) => Err(stop),
-            Ok(goal) => build_engine(alloc, name, ast, &checked, &goal, &mut symbols),
+            Ok(goal) => build_engine(alloc, name, ast, &checked, &goal, symbols),
         },
     }
 }
 
 // The line of a text that is refused.
 fn refused(stop: TextStop) -> Result<Prepared, AllocError>
-    ensures prepared { IfOk result (λ prepared. (last : List ℕ) → IsRefusal last stop → prepared_output prepared ≡ line_only last Status.Refused) }
+    ensures prepared { IfOk result (λ prepared. (last : List ℕ) → IsRefusal last stop → IsOutputOf (line_only last Status.Refused) prepared) }
+    ensures memory { stop ≡ TextStop.Memory → IsErr result }
     ensures status { IfOk result (λ prepared. IsTextStatus (status_of prepared)) }
 {
     match stop {

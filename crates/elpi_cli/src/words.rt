@@ -1,11 +1,23 @@
 // The words of the command line.
-ghost use Rattle.std.specs.Prelude.{◌≡◌, ◌<◌, length, None, Some, IfOk, ℕ};
-ghost use Rattle.elpi_cli.specs.Words.{texts, command, take_word, IsCommand, AreBelow, IsWithin};
+ghost use Rattle.std.specs.Prelude.{◌≡◌, ◌<◌, length, None, Some, IfOk, ℕ, if◌then◌else◌};
+ghost use Rattle.std.specs.Str.Parse.{digits_value};
+ghost use Rattle.elpi_cli.specs.Words.{texts, command, take_word, take_option_or_file, asks_for, is_number, number_within, IsCommand, AreBelow, IsWithin};
 
 use ref_terms::Sequence;
 use std::alloc::{AllocError, AllocFailed, Global};
 
 const MAX_FILES: usize = 1;
+
+// How many digits a number has at most.
+const MAX_DIGITS: usize = 10;
+
+// The number of steps where none is given, and the most that can be.
+const STEPS: u64 = 1_000_000;
+
+const MAX_STEPS: u64 = 1_000_000_000;
+
+// The greatest limit on answers.
+const MAX_ANSWERS: u64 = 1_000_000;
 
 /// What a command line asks for. Query and files are indices into the words.
 #[derive(Debug, Drop)]
@@ -42,6 +54,8 @@ pub enum Place {
     First,
     OptionOrFile,
     QueryValue,
+    StepsValue,
+    AnswersValue,
 }
 
 /// What the words so far have said.
@@ -49,7 +63,37 @@ pub enum Place {
 pub struct Reading {
     pub place: Place,
     pub query: Option<usize>,
+    pub steps: Option<u64>,
+    pub answers: Option<u64>,
     pub files: Sequence<usize>,
+}
+
+// The value of a number of one to ten digits; none where the word is none.
+fn number_of(word: &[u8]) -> Option<u64>
+    ensures { result ≡ (if is_number word.now then Some (digits_value 10 word.now) else None) }
+{
+    if word.is_empty() || word.len() > MAX_DIGITS {
+        return None;
+    }
+    let mut value = 0;
+    for i in 0..word.len() {
+        let digit = word[i];
+        if !digit.is_ascii_digit() {
+            return None;
+        }
+        value = value * 10 + u64::from(digit - b'0');
+    }
+    Some(value)
+}
+
+// The number that the word is, from `least` to `most`.
+fn number_within(least: u64, most: u64, word: &[u8]) -> Option<u64>
+    ensures { result ≡ number_within least most word.now }
+{
+    match number_of(word) {
+        Some(number) if least <= number && number <= most => Some(number),
+        _ => None,
+    }
 }
 
 impl Reading {
@@ -71,21 +115,59 @@ impl Reading {
                 self.query = Some(index);
                 self.place = Place::OptionOrFile;
             }
-            Place::OptionOrFile => {
-                if word == b"--query".as_slice() {
-                    if self.query.is_some() {
-                        return Ok(false);
-                    }
-                    self.place = Place::QueryValue;
-                } else {
-                    if word.starts_with(b"--") || self.files.len() >= MAX_FILES {
-                        return Ok(false);
-                    }
-                    self.files.push(index)?;
-                }
+            Place::StepsValue => {
+                let Some(steps) = number_within(1, MAX_STEPS, word) else {
+                    return Ok(false);
+                };
+                self.steps = Some(steps);
+                self.place = Place::OptionOrFile;
             }
+            Place::AnswersValue => {
+                let Some(answers) = number_within(0, MAX_ANSWERS, word) else {
+                    return Ok(false);
+                };
+                self.answers = Some(answers);
+                self.place = Place::OptionOrFile;
+            }
+            Place::OptionOrFile => return self.take_option_or_file(index, word),
         }
         Ok(true)
+    }
+
+    // The same where an option or a file name stands.
+    fn take_option_or_file(&mut self, index: usize, word: &[u8]) -> Result<bool, AllocFailed<usize>>
+        ensures taken { IfOk result (λ taken. take_option_or_file self.old index word.now ≡ (if taken then Some self.new else None)) }
+        ensures below { (count : ℕ) → index < count → AreBelow count self.old → AreBelow count self.new }
+    {
+        if word == b"--query".as_slice() {
+            let is_given = self.query.is_some();
+            return Ok(self.ask_for(Place::QueryValue, is_given));
+        }
+        if word == b"--steps".as_slice() {
+            let is_given = self.steps.is_some();
+            return Ok(self.ask_for(Place::StepsValue, is_given));
+        }
+        if word == b"--answers".as_slice() {
+            let is_given = self.answers.is_some();
+            return Ok(self.ask_for(Place::AnswersValue, is_given));
+        }
+        if word.starts_with(b"--") || self.files.len() >= MAX_FILES {
+            return Ok(false);
+        }
+        self.files.push(index)?;
+        Ok(true)
+    }
+
+    // The next word is the value of an option, unless this was given before.
+    fn ask_for(&mut self, value: Place, is_given: bool) -> bool
+        ensures taken { asks_for value is_given self.old ≡ (if result then Some self.new else None) }
+        ensures below { (count : ℕ) → AreBelow count self.old → AreBelow count self.new }
+    {
+        if is_given {
+            return false;
+        }
+        self.place = value;
+        true
     }
 }
 
@@ -97,6 +179,8 @@ pub fn read_words(alloc: Global, words: &[String]) -> Result<Command, WordsStop>
     let mut reading = Reading {
         place: Place::First,
         query: None,
+        steps: None,
+        answers: None,
         files: Sequence::new(alloc),
     };
     for (index, word) in words.iter().enumerate() {
@@ -106,8 +190,8 @@ pub fn read_words(alloc: Global, words: &[String]) -> Result<Command, WordsStop>
     }
     match (reading.place, reading.query) {
         (Place::OptionOrFile, Some(query)) if reading.files.len() == 1 => Ok(Command::Run {
-            steps: 1_000_000,
-            answers: 0,
+            steps: reading.steps.unwrap_or(STEPS),
+            answers: reading.answers.unwrap_or(0),
             query,
             files: reading.files,
         }),

@@ -1,12 +1,17 @@
-//! Whole runs over files and a sink in memory: the worked rows, a line each, failing reads and writes, and the limits.
+//! Whole runs over files and a sink in memory: the worked rows, a line each, the words and options, failing reads and
+//! writes, and the limits.
 //!
 //! The crate has tests alone. Expected values are by hand.
 #![tactic(auto)]
 
 #[cfg(test)]
+mod examples;
+#[cfg(test)]
 mod failing;
 #[cfg(test)]
 mod limits;
+#[cfg(test)]
+mod options;
 #[cfg(test)]
 mod rows;
 #[cfg(test)]

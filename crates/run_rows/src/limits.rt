@@ -1,4 +1,4 @@
-//! Runs at the limits of files, names, nesting and commas.
+//! Runs at the limits of files, names and nesting.
 use crate::runs::{expect_run, expect_same, run_with};
 use lam_io::ByteText;
 use std::alloc::Global;
@@ -58,12 +58,11 @@ fn expect_query(
 }
 
 #[test]
-fn nesting_and_commas_end_at_their_limits(rt: HostRuntime) -> Result<(), Fail> {
+fn nesting_ends_at_its_limit(rt: HostRuntime) -> Result<(), Fail> {
     let alloc = rt.alloc();
     expect_query(alloc, "(", 2001, "", "refused: query:1:2001: deep / 3")?;
     expect_query(alloc, "(", 1999, "", "refused: query:1:2000: query / 3")?;
-    expect_query(alloc, "p,", 1000, "p", "failure / 1")?;
-    expect_query(alloc, "p,", 1001, "p", "refused: query: not yet / 3")?;
-    expect_query(alloc, "p,", 2000, "p", "refused: query: not yet / 3")?;
+    expect_query(alloc, "p,", 1001, "p", "failure / 1")?;
+    expect_query(alloc, "p,", 2000, "p", "failure / 1")?;
     expect_query(alloc, "p,", 2001, "p", "refused: query:1:4002: deep / 3")
 }

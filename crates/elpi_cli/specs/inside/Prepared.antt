@@ -5,12 +5,10 @@ use Rattle.std.specs.String.{string_bytes}
 use Rattle.lam_io.specs.declared.byte_text.FileEntry.{FileEntry}
 use Rattle.elpi_cli.specs.declared.status.Status.{Status}
 use Rattle.elpi_cli.specs.declared.status.Status.TheVariants.{Words, ReadFault, WriteFault, Memory, Refused}
-use Rattle.elpi_cli.specs.declared.top.Job.{Job}
 use Rattle.elpi_cli.specs.declared.top.Prepared.{Prepared}
 use Rattle.elpi_cli.specs.declared.top.Prepared.TheVariants.{Search, Line}
 use Rattle.elpi_cli.specs.Output.{Output, line_only}
-use Rattle.elpi_cli.specs.inside.HornOutput.{horn_events, horn_written}
-use Rattle.elpi_cli.specs.Reading.{reading}
+use Rattle.elpi_cli.specs.inside.Searching.{HasOutput}
 use Rattle.elpi_cli.specs.Top.{output, read_line, IsReadFault}
 
 -- the status of a line
@@ -18,24 +16,24 @@ abbrev pub status_of : Prepared → Option Status
 status_of (Search job) = None
 status_of (Line text status) = Some status
 
--- the output of a search that begins
-abbrev pub search_output : Job → Output
-search_output job = horn_written job.answers 0 (horn_events job.horn job.steps (reading job.horn job.machine))
+-- this output is to be written of what was prepared
+abbrev pub IsOutputOf : Output → Prepared → Type 0
+IsOutputOf whole (Search job) = HasOutput job.symbols job.machine job.steps job.answers whole
+IsOutputOf whole (Line text status) = whole ≡ line_only (string_bytes text) status
 
--- what is to be written of what was prepared
-abbrev pub prepared_output : Prepared → Output
-prepared_output (Search job) = search_output job
-prepared_output (Line text status) = line_only (string_bytes text) status
+-- some output is
+abbrev pub HasSomeOutput : Prepared → Type 0
+HasSomeOutput prepared = (whole : Output) × IsOutputOf whole prepared
 
 -- this output is to be written, or the line of a failed read of a file that is there
 abbrev pub Loads : List ℕ → Option (List ℕ) → Output → Prepared → Type 0
 Loads name bytes whole (Line text ReadFault) = IsSome bytes × (string_bytes text ≡ read_line name)
-Loads name bytes whole prepared = whole ≡ prepared_output prepared
+Loads name bytes whole prepared = IsOutputOf whole prepared
 
 -- the output of the run is to be written, or the line of a failed read
 abbrev pub Prepares : List (List ℕ) → List FileEntry → Prepared → Type 0
 Prepares words told (Line text ReadFault) = IsReadFault words told (string_bytes text)
-Prepares words told prepared = output words told ≡ prepared_output prepared
+Prepares words told prepared = IsOutputOf (output words told) prepared
 
 -- the statuses of a line that comes of the texts
 abbrev pub IsTextStatus : Option Status → Type 0
