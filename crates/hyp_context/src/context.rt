@@ -1,7 +1,7 @@
 //! Contexts.
 
-ghost use Rattle.std.specs.Prelude.{◌≡◌, ◌≢◌, ◌∷◌, ◌++◌, [], length, IfOk, IfSome, IfNone, MatchOption};
-ghost use Rattle.hyp_context.specs.Contexts.{hyps_for};
+ghost use Rattle.std.specs.Prelude.{◌≡◌, ◌∷◌, ◌++◌, [], length, IfOk, IfSome, IfNone};
+ghost use Rattle.hyp_context.specs.Contexts.{hyps_for, changeable_hyps};
 
 use crate::chain::Chain;
 use crate::table::Table;
@@ -17,6 +17,7 @@ pub struct Context {
     alloc: Global,
     all: Chain,
     count: usize,
+    changeable: Chain,
     by_pred: Table,
 }
 
@@ -42,6 +43,7 @@ impl Context {
             alloc,
             all: Chain::End,
             count: 0,
+            changeable: Chain::End,
             by_pred: Table::Empty,
         }
     }
@@ -55,6 +57,7 @@ impl Context {
             alloc: self.alloc,
             all: self.all.copy()?,
             count: self.count,
+            changeable: self.changeable.copy()?,
             by_pred: self.by_pred.copy()?,
         })
     }
@@ -81,11 +84,13 @@ impl Context {
         let pred = hyp.pred;
         let hyp = Rc::new(self.alloc, hyp)?;
         let by_pred = self.by_pred.with(self.alloc, pred.0, &hyp)?;
+        let changeable = self.changeable.with_changeable(self.alloc, &hyp)?;
         let all = self.all.copy()?.with(self.alloc, hyp)?;
         Ok(Context {
             alloc: self.alloc,
             all,
             count,
+            changeable,
             by_pred,
         })
     }
@@ -103,6 +108,16 @@ impl Context {
     {
         HypIter {
             rest: Some(&self.all),
+        }
+    }
+
+    /// Those in which something can change, since a variable or an applied abstraction stands in them;
+    /// no other is looked at. Takes no memory.
+    pub fn changeable(&self) -> HypIter<'_>
+        ensures { result ≡ changeable_hyps self.now }
+    {
+        HypIter {
+            rest: Some(&self.changeable),
         }
     }
 
@@ -135,21 +150,6 @@ impl<'a> Model for HypIter<'a> {
 }
 
 impl<'a> HypIter<'a> {
-    /// What is left, kept apart, in constant time and without new memory; none exactly where none is
-    /// left. Answers `AllocError` where so many copies are there that they can't be counted.
-    pub fn tail(&self) -> Result<Option<HypTail>, AllocError>
-        ensures { IfOk result (λ o. MatchOption o (self.now ≡ []) (λ t. (t ≡ self.now) × (t ≢ []))) }
-    {
-        match self.rest {
-            None => Ok(None),
-            Some(Chain::End) => Ok(None),
-            Some(chain) => {
-                let chain = chain.copy()?;
-                Ok(Some(HypTail { chain }))
-            }
-        }
-    }
-
     /// The next one; none exactly where none is left. Takes constant time, and no memory.
     pub fn next(&mut self) -> Option<&'a Hyp>
         ensures some { IfSome result (λ h. self.old ≡ h.now ∷ self.new) }
@@ -163,34 +163,6 @@ impl<'a> HypIter<'a> {
                 self.rest = Some(&entry.older);
                 Some(&entry.hyp)
             }
-        }
-    }
-}
-
-/// Assumptions that are kept to be gone through later. Contracts see their list.
-#[derive(Drop)]
-pub struct HypTail {
-    chain: Chain,
-}
-
-impl Model for HypTail {
-    ghost use Rattle.std.specs.Prelude.{List};
-    ghost use Rattle.hyp_clause.specs.declared.hyp.Hyp.{Hyp};
-
-    ghost Value = { List Hyp };
-
-    ghost use Rattle.hyp_context.specs.inside.Items.{items_of};
-
-    ghost view = { λ t. items_of t.chain };
-}
-
-impl HypTail {
-    /// All of them. Takes no memory.
-    pub fn iter(&self) -> HypIter<'_>
-        ensures { result ≡ self.now }
-    {
-        HypIter {
-            rest: Some(&self.chain),
         }
     }
 }

@@ -8,9 +8,10 @@
 mod chain;
 mod context;
 pub mod laws;
+mod list;
 mod table;
 
-pub use context::{Context, HypIter, HypTail};
+pub use context::{Context, HypIter};
 
 #[cfg(test)]
 mod tests;

@@ -1,3 +1,4 @@
 pub mod BuildLemmas
 pub mod RowLemmas
 pub mod SampleLemmas
+pub mod ClauseLemmas

@@ -5,9 +5,9 @@
 #![tactic(auto)]
 
 #[cfg(test)]
-mod builder;
+mod assuming;
 #[cfg(test)]
-mod calling;
+mod builder;
 #[cfg(test)]
 mod heaping;
 #[cfg(test)]
