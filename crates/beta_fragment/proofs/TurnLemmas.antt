@@ -23,7 +23,7 @@ use Rattle.beta_fragment.specs.Names.{names, renamed}
 use Rattle.beta_fragment.specs.Moves.{IsMove}
 use Rattle.beta_fragment.specs.HeadForm.{AllValidAt, all_read, FirstUnready}
 use Rattle.beta_fragment.specs.Firm.{IsSpine}
-use Rattle.beta_fragment.specs.inside.Turn.{GoesOn, NoneReady, IsFirst}
+use Rattle.beta_fragment.specs.inside.Turn.{GoesOn, StaysAfter, lower, own_too, NoneReady, IsFirst}
 use Rattle.beta_fragment.specs.inside.Spine.{args_in}
 use Rattle.beta_fragment.specs.declared.glance.Readiness.TheVariants.{Level, Ready}
 use Rattle.std.specs.Option.{option_to_list}
@@ -56,13 +56,34 @@ value-turn g depth head value v ls fixed args s e f vv valid m = record {
       (valid-below g' value (slice_index g'.depths v.index) (value-valid g'.nodes g'.depths g'.assigned sg.valid v.index value has), value_below g' sg head v.index value v refl here has);
 }
 
+-- the levels that stay where an abstraction takes a name
+stays-after : (made k : ℕ) (ls more : List ℕ) (fixed fixed' depth : ℕ) → IsMove ls fixed depth → made ≤ length ls → k < depth → more ≡ take made ls ++ k ∷ [] → length more ≡ suc made → StaysAfter fixed made k (length more) fixed' →
+    (fixed' ≤ length more) × (fixed' ≤ depth) × ((i : ℕ) → i < fixed' → slice_index more i ≡ i)
+stays-after made k ls more fixed fixed' depth m within low q long (lower r) = (
+  omega (arith, long, r),
+  (let l = m.low in omega (arith, l, r)),
+  λ i h. ap (λ (zs : List ℕ). slice_index zs i) q ∙ take-front ls (k ∷ []) made i within (omega (arith, h, r)) ∙ m.stay i (omega (arith, h, r)),
+)
+stays-after made k ls more fixed fixed' depth m within low q long (own_too e f r) = (
+  omega (arith, r),
+  omega (arith, r, long, e, low),
+  λ i h. go i (omega (arith, h, r, long)) (nat_eq made i) refl,
+)
+  where
+    go : (i : ℕ) → i < suc made → (c : Bool) → nat_eq made i ≡ c → slice_index more i ≡ i
+    go i h true p = ap₂ (λ (zs : List ℕ) (j : ℕ). slice_index zs j) q (sym (eqb-true made i p)) ∙ take-next ls k made within ∙ e ∙ eqb-true made i p
+    go i h false p =
+        let lt = step_down made i p h in
+        ap (λ (zs : List ℕ). slice_index zs i) q ∙ take-front ls (k ∷ []) made i within lt ∙ m.stay i (omega (arith, lt, f))
+
 -- an abstraction takes a name
 pub lam-turn : (g : Graph) (depth head made : ℕ) (body : TermId) (k : ℕ) (a : TermId) (ls more : List ℕ) (fixed fixed' : ℕ) (args args' : List TermId) → IsSound g → node_at g.nodes head ≡ Some (Lam made body) → IsValid g head (length ls) → IsMove ls fixed depth →
-    args ≡ args' ++ a ∷ [] → read g a.index names ≡ names k → k < depth → more ≡ take made ls ++ k ∷ [] → fixed' ≡ min fixed made → GoesOn depth g g head body.index ls more fixed' args args'
+    args ≡ args' ++ a ∷ [] → read g a.index names ≡ names k → k < depth → more ≡ take made ls ++ k ∷ [] → StaysAfter fixed made k (length more) fixed' → GoesOn depth g g head body.index ls more fixed' args args'
 lam-turn g depth head made body k a ls more fixed fixed' args args' s e valid m split name low q r =
     let within = lam-within g head made body (length ls) s e valid in
     let long : length more ≡ suc made = ap length q ∙ take-more ls k made within in
     let order : reverse args ≡ a ∷ reverse args' = ap reverse split ∙ newest-arg args' a in
+    let stays = stays-after made k ls more fixed fixed' depth m within low q long r in
     record {
       spine = λ u w. record {
         reads = w.reads
@@ -75,9 +96,9 @@ lam-turn g depth head made body k a ls more fixed fixed' args args' s e valid m 
       };
       moves = record {
         below = λ i h. go_below i (omega (arith, h, long)) within;
-        few = omega (arith, long, r);
-        low = (let l = m.low in omega (arith, l, r));
-        stay = λ i h. ap (λ (zs : List ℕ). slice_index zs i) q ∙ take-front ls (k ∷ []) made i within (omega (arith, h, r)) ∙ m.stay i (omega (arith, h, r));
+        few = stays.0;
+        low = stays.1;
+        stay = stays.2;
       };
       valid = subst (IsValid g body.index) (sym long) (body-valid g s head made body (length ls) e valid);
       less = λ g' sg gr below.

@@ -21,7 +21,7 @@ ghost use Rattle.beta_fragment.specs.HeadForm.{IsHeadForm, HasLowHead, AllValidA
 ghost use Rattle.beta_fragment.specs.Firm.{IsSpine, IsAbstractionNode};
 ghost use Rattle.beta_fragment.specs.inside.Spine.{args_in};
 ghost use Rattle.beta_fragment.specs.Body.{IsLam};
-ghost use Rattle.beta_fragment.specs.inside.Turn.{IsTurn, NoneReady, IsFirst, FirstReady, IsFirstArg};
+ghost use Rattle.beta_fragment.specs.inside.Turn.{IsTurn, StaysAfter, NoneReady, IsFirst, FirstReady, IsFirstArg};
 
 use crate::answer::{RigidHead, Whnf};
 use crate::glance::{Readiness, bare_var_of, is_abstraction, looked_at};
@@ -369,6 +369,18 @@ fn held(
     }
 }
 
+/// How many levels stay where an abstraction takes a name, which is the last one in the list now.
+/// Where it is that of the abstraction's own level, this one stays too, so that nothing is renamed.
+fn fixed_after(levels: &Levels, fixed: usize, made: usize, name: usize) -> usize
+    ensures { StaysAfter fixed made name (length levels.now) result }
+{
+    if name == made && made <= fixed {
+        levels.len()
+    } else {
+        fixed.min(made)
+    }
+}
+
 /// A turn at an abstraction.
 fn turn_lam(
     alloc: Global,
@@ -397,7 +409,7 @@ fn turn_lam(
             args.pop();
             levels.truncate(made);
             levels.push(k)?;
-            *fixed = (*fixed).min(made);
+            *fixed = fixed_after(levels, *fixed, made, k);
             Ok(Turn::Goes(body))
         }
         Readiness::Unready => {

@@ -6,6 +6,7 @@ pub mod KeepValue
 pub mod KeptLemmas
 pub mod ReachedLemmas
 pub mod ReachedWork
+pub mod FillingWork
 pub mod SpineNameLemmas
 pub mod PositionLemmas
 pub mod MeetLemmas
@@ -26,5 +27,6 @@ pub mod FlexibleTurns
 pub mod OffenceOpened
 pub mod OffenceSpines
 pub mod SearchLemmas
+pub mod GroundVerdicts
 pub mod ProperReadings
 pub mod OwnLemmas

@@ -1,6 +1,7 @@
 pub mod Binding
 pub mod Closed
 pub mod Equations
+pub mod Filling
 pub mod Keeping
 pub mod Own
 pub mod Reaching

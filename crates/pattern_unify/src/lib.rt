@@ -7,6 +7,7 @@ mod applying;
 mod assigning;
 mod binding;
 mod equation;
+mod filling;
 mod flexible;
 mod keeping;
 mod meeting;

@@ -3,10 +3,12 @@
 //! The search keeps a list of the subterms that are still to be looked at, so that depth is bounded
 //! by memory alone. An abstraction is opened with the name of its level: names from the search's base
 //! on are those that the term binds, or of levels that are all known, and none of them is foreign.
+//! Where all names are known, a node in which nothing can change is passed over.
 
-ghost use Rattle.std.specs.Prelude.{◌≡◌, ◌≤◌, ℕ, suc, List, false, [], ◌++◌, reverse, map, IfOk, OnOk};
+ghost use Rattle.std.specs.Prelude.{◌≡◌, ◌≤◌, ℕ, suc, List, true, false, [], ◌++◌, reverse, map, IfOk, OnOk};
 ghost use Rattle.level_terms.specs.Growth.{Grows};
 ghost use Rattle.level_terms.specs.Reading.{read};
+ghost use Rattle.level_terms.specs.GroundNormal.{is_ground_normal};
 ghost use Rattle.level_terms.specs.Valid.{IsValid};
 ghost use Rattle.ref_terms.specs.terms.Term as term;
 ghost use Rattle.ref_terms.specs.unification.Closing.{names_below};
@@ -19,6 +21,7 @@ ghost use Rattle.pattern_unify.specs.inside.Searching.{is_known, unknown_from, i
 ghost use Rattle.pattern_unify.specs.inside.Verdicts.{verdict_of, DropsAssignable};
 
 use crate::applying::{applied, inner_depth};
+use crate::settled::settled;
 use crate::spine::pattern_names;
 use beta_fragment::{RigidHead, Whnf, whnf};
 use level_terms::{Heap, TermId, VarId};
@@ -144,6 +147,9 @@ fn look(
     ensures grows { Grows heap.old heap.new [] [] }
 {
     heap.is_sound();
+    if base == 0 && is_ground(heap, at.node, at.depth) {
+        return Ok(Verdict::Fine);
+    }
     let form = whnf(alloc, heap, at.node, at.depth)?;
     match form {
         Whnf::Lam(lam) => look_abstraction(alloc, heap, lam, at.depth, at.loose, work),
@@ -159,6 +165,16 @@ fn look(
         }
         Whnf::Redex(_, _) => Ok(Verdict::Redex),
     }
+}
+
+/// Whether the node, or its value where it is a variable's, is one in which neither a variable nor an
+/// applied abstraction stands.
+fn is_ground(heap: &Heap, t: TermId, depth: usize) -> bool
+    requires { IsValid heap.now t.index depth }
+    ensures { result ≡ true → is_ground_normal (read heap.now t.index names) ≡ true }
+{
+    let node = settled(heap, t, depth);
+    heap.is_ground_normal(node)
 }
 
 /// Looks at an abstraction: its body, under the name of its level, goes onto the work list.

@@ -2,6 +2,9 @@
 //!
 //! What a node reads as may lack a variable that is reached from it: reduction drops the arguments of
 //! an abstraction without its name. A value must not reach its own variable.
+//!
+//! The same look tells whether all that is reached has values. Then the node is made anew with these,
+//! so that later looks pass over it.
 
 ghost use Rattle.std.specs.Prelude.{◌≡◌, ◌<◌, ◌++◌, [], false, Some, length, nat_eq, IfOk, OnOk};
 ghost use Rattle.level_terms.specs.Graph.{node_at, value_in};
@@ -15,12 +18,14 @@ ghost use Rattle.ref_terms.specs.terms.Occurs.{occurs};
 ghost use Rattle.beta_fragment.specs.Names.{names};
 ghost use Rattle.pattern_unify.specs.inside.Reaching.{value_node, HasNext, IsLeft};
 
+use crate::filling::filled;
 use beta_fragment::rebuild;
 use level_terms::{Heap, Node, TermId, VarId};
 use std::alloc::{AllocError, Global};
 
 /// A node that reads as this one, and from which the variable isn't reached, where the reading lacks
-/// it: the node itself, if it isn't reached from that, and else one made anew.
+/// it: one made anew, if it is reached from the node, or if the node's variables all have values, and
+/// else the node itself.
 pub(crate) fn node_without(
     alloc: Global,
     heap: &mut Heap,
@@ -36,16 +41,55 @@ pub(crate) fn node_without(
     ensures variables { heap.new.depths ≡ heap.old.depths }
     ensures grows { Grows heap.old heap.new [] [] }
 {
-    if is_reached(alloc, heap, v, t)? {
+    let mut stays = true;
+    if is_reached(alloc, heap, v, t, &mut stays)? {
         return rebuild(alloc, heap, t, depth);
+    }
+    if stays {
+        return settled_whole(alloc, heap, v, t, depth);
+    }
+    Ok(t)
+}
+
+/// The node with the values of its variables in their places, where neither a variable nor an applied
+/// abstraction is left in that, and else the node itself.
+fn settled_whole(
+    alloc: Global,
+    heap: &mut Heap,
+    v: VarId,
+    t: TermId,
+    depth: usize,
+) -> Result<TermId, AllocError>
+    requires valid { IsValid heap.old t.index depth }
+    requires unreached { IsUnreached heap.old v.index t.index }
+    ensures reads { IfOk result (λ r. read heap.new r.index names ≡ read heap.old t.index names) }
+    ensures valid { IfOk result (λ r. IsValid heap.new r.index depth) }
+    ensures unreached { IfOk result (λ r. IsUnreached heap.new v.index r.index) }
+    ensures variables { heap.new.depths ≡ heap.old.depths }
+    ensures grows { Grows heap.old heap.new [] [] }
+{
+    heap.is_sound();
+    if heap.is_ground_normal(t) {
+        return Ok(t);
+    }
+    let r = filled(alloc, heap, t)?;
+    if heap.is_ground_normal(r) {
+        return Ok(r);
     }
     Ok(t)
 }
 
 /// Whether the variable is reached from the node, through values and through what reduction drops.
 /// Looks at no more nodes than are in the node's tree, and at none below a part that has neither a
-/// variable nor an applied abstraction.
-fn is_reached(alloc: Global, heap: &Heap, v: VarId, t: TermId) -> Result<bool, AllocError>
+/// variable nor an applied abstraction. `stays` becomes false where a variable without a value is
+/// seen, or an abstraction or an applied variable, in which a variable may stay.
+fn is_reached(
+    alloc: Global,
+    heap: &Heap,
+    v: VarId,
+    t: TermId,
+    stays: &mut bool,
+) -> Result<bool, AllocError>
     requires { t.index < length heap.now.nodes }
     ensures { IfOk result (λ b. b ≡ false → IsUnreached heap.now v.index t.index) }
 {
@@ -57,12 +101,41 @@ fn is_reached(alloc: Global, heap: &Heap, v: VarId, t: TermId) -> Result<bool, A
         if own {
             return Ok(true);
         }
+        if may_change(heap, node) {
+            *stays = false;
+        }
         push_parts(heap, node, &mut work)?;
         match work.pop() {
             Some(next) => node = next,
             None => return Ok(false),
         }
     }
+}
+
+/// Whether something would be left that can change, were the node made anew with the values of its
+/// variables. Time alone hangs on the answer.
+fn may_change(heap: &Heap, node: TermId) -> bool
+    requires { node.index < length heap.now.nodes }
+{
+    if heap.is_ground_normal(node) {
+        return false;
+    }
+    heap.is_sound();
+    match heap.view(node) {
+        Node::Var(v) => heap.value(*v).is_none(),
+        Node::App { head, .. } => !is_leaf(heap, *head),
+        _ => true,
+    }
+}
+
+/// Whether the node is a constant, a string or a level.
+fn is_leaf(heap: &Heap, node: TermId) -> bool
+    requires { node.index < length heap.now.nodes }
+{
+    matches!(
+        heap.view(node),
+        Node::Con(_) | Node::Str(_) | Node::Level(_)
+    )
 }
 
 /// Whether the node is the variable's.

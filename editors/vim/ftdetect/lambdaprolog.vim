@@ -1,2 +1,2 @@
 " Programs for Doqwesha and ELPI.
-autocmd BufRead,BufNewFile *.lp,*.elpi setfiletype lambdaprolog
+autocmd BufRead,BufNewFile *.lp,*.elpi set filetype=lambdaprolog

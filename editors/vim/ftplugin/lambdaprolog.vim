@@ -5,5 +5,5 @@ endif
 let b:did_ftplugin = 1
 setlocal commentstring=%\ %s
 setlocal comments=s1:/*,mb:*,ex:*/,:%
-setlocal iskeyword+=',45
+setlocal iskeyword=@,48-57,_,39
 let b:undo_ftplugin = 'setlocal commentstring< comments< iskeyword<'

@@ -2,17 +2,20 @@
 if exists('b:current_syntax')
   finish
 endif
-syntax match lambdaprologNumber /\v<-?\d+>/
-syntax match lambdaprologVariable /\v<[A-Z_][[:alnum:]_'-]*/
-syntax match lambdaprologBinder /\v<[[:alpha:]_][[:alnum:]_'-]*\ze\s*\\/
-syntax keyword lambdaprologKeyword pred kind type constraint rule pi sigma is
-syntax keyword lambdaprologBuiltin true fail same var nonvar name distinct lt print beta declare_constraint
-syntax match lambdaprologOperator /\v:-|\=\>|\<\=\>|::|-\>|\?-|[,;|\\!=+*~>]/
-syntax match lambdaprologMode /\v<[io]:/
+" A word goes on with letters, digits, _ and ', and with a - before one of these. Later items win where two begin together.
+syntax match lambdaprologOperator /:-\|=>\|<=>\|::\|->\|?-\|[,;|\\!=+*~>-]/
+syntax match lambdaprologNumber /-\?\d\+/
+syntax match lambdaprologName /\v[[:lower:][:upper:]](\k|-\k@=)*/
+syntax match lambdaprologVariable /\v[A-Z_](\k|-\k@=)*/
+syntax match lambdaprologMode /\v<[io]\ze\s*:[:-]@!/
+syntax match lambdaprologBuiltin /\v<(true|fail|same|var|nonvar|name|distinct|lt|print|beta|declare_constraint)(\k|-\k)@!/
+syntax match lambdaprologKeyword /\v<(pred|kind|type|constraint|rule|pi|sigma|is)(\k|-\k)@!/
+syntax match lambdaprologBinder /\v[[:lower:][:upper:]_](\k|-\k@=)*\ze\s*\\/
 syntax match lambdaprologEscape /\\[nt\\"]/ contained
 syntax region lambdaprologString start=/"/ skip=/\\./ end=/"/ contains=lambdaprologEscape
 syntax match lambdaprologComment /%.*$/ contains=@Spell
 syntax region lambdaprologComment start=+/\*+ end=+\*/+ contains=@Spell
+syntax iskeyword @,48-57,_,39
 highlight default link lambdaprologNumber Number
 highlight default link lambdaprologVariable Identifier
 highlight default link lambdaprologBinder Special

@@ -1,5 +1,5 @@
 -- A turn of the search for a term's head.
-use Rattle.std.specs.Prelude.{◌≡◌, ℕ, suc, ◌<◌, true, false, List, [], ◌∷◌, length}
+use Rattle.std.specs.Prelude.{◌≡◌, ℕ, suc, ◌<◌, ◌≤◌, true, false, List, [], ◌∷◌, length, min}
 use Rattle.level_terms.specs.declared.node.TermId.{TermId}
 use Rattle.level_terms.specs.Graph.{Graph}
 use Rattle.level_terms.specs.Growth.{Grows}
@@ -40,6 +40,12 @@ abbrev pub IsTurn : (depth : ℕ) (old new : Graph) (head : ℕ) (levels levels'
 IsTurn depth old new head levels levels' fixed args args' (Goes next) = GoesOn depth old new head next.index levels levels' fixed args args'
 IsTurn depth old new head levels levels' fixed args args' (Takes next arg) = TakesOn depth old new head next.index arg.index levels levels' fixed args args'
 IsTurn depth old new head levels levels' fixed args args' (Ends w) = (u : Term) → IsSpine old depth u head levels args → IsHeadForm new depth u w
+
+-- how many of so many levels stay, where an abstraction that was made at a depth takes a name: those below its own level
+-- that stayed, and where the name is its own level's and all those stayed, this one too
+pub data StaysAfter (fixed made name count result : ℕ) : Type 0 where
+  lower : result ≡ min fixed made → StaysAfter fixed made name count result
+  own_too : name ≡ made → made ≤ fixed → result ≡ count → StaysAfter fixed made name count result
 
 -- the first argument, if there is one, doesn't become ready
 abbrev pub NoneReady : Graph → List TermId → Type 0

@@ -1,13 +1,23 @@
 use Rattle.std.proofs.Common.{◌∙◌, ◌++◌, [], List, ap, subst, reverse, map}
 use Rattle.level_terms.specs.declared.node.TermId.{TermId}
 use Rattle.level_terms.specs.Reading.{read}
-use Rattle.level_terms.proofs.GrowthLemmas.{grows-trans}
+use Rattle.level_terms.proofs.GrowthLemmas.{grows-refl, grows-trans}
 use Rattle.beta_fragment.specs.declared.answer.Whnf.{Whnf}
 use Rattle.beta_fragment.specs.HeadForm.{IsHeadForm}
 use Rattle.beta_fragment.specs.Names.{names}
 use Rattle.pattern_unify.specs.inside.Searching.{searching, subterm}
+use Rattle.pattern_unify.proofs.GroundVerdicts.{looks-ground}
 use Rattle.pattern_unify.proofs.SearchLemmas.{names-low, looks-rigid, looks-redex}
 use Rattle.pattern_unify.proofs.offence.look.Goals as goal
+
+pub returns-then-is_ground-clause-looks : goal.returns-then-is_ground-clause-looks
+returns-then-is_ground-clause-looks c =
+    looks-ground (searching c.args.mark.index c.args.x.index c.args.ns.now c.args.base) c.args.heap.now c.args.at.depth c.args.at.loose (read c.args.heap.now c.args.at.node.index names) c.args.work.now.items c.if-base-eq0.true
+    (names-low c.args.heap.now c.args.at.node.index c.args.at.depth c.requires.valid)
+    (c.is_ground.ensures c.if-is_ground.true)
+
+pub returns-then-is_ground-clause-grows : goal.returns-then-is_ground-clause-grows
+returns-then-is_ground-clause-grows c = grows-refl c.args.heap.now []
 
 pub returns-in-Lam-clause-grows : goal.returns-in-Lam-clause-grows
 returns-in-Lam-clause-grows c = grows-trans c.args.heap.now c.whnf.new.heap c.look_abstraction.new.heap [] [] [] c.whnf.ensures.grows c.look_abstraction.ensures.grows

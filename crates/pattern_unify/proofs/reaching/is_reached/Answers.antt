@@ -40,3 +40,6 @@ returns-in-None c =
     let none = empty-list c.push_parts.new.work.items (omega (arith, c.push_parts.new.work.ok, c.in-None.ensures.cases.0)) in
     λ e. c.loop-v.invariant.leads (turn-unreached c.args.heap.now c.is_sound.ensures c.args.v.index c.loop-v.work.items c.loop-v.node c.push_parts.new.work.items c.in_ok-push_parts.ensures
     (c.is_own-own.ensures c.if-own.false) (subst (AllUnreached c.args.heap.now c.args.v.index) (sym none) tt))
+
+pub may_change-requires : goal.may_change-requires
+may_change-requires c = older-last (length c.args.heap.now.nodes) c.loop-v.work.items c.loop-v.node c.loop-v.invariant.there

@@ -1,0 +1,3 @@
+pub mod Keys
+pub mod Passing
+pub mod Laws

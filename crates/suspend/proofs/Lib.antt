@@ -1,0 +1,9 @@
+pub mod KeyLemmas
+pub mod LookLemmas
+pub mod EventLemmas
+pub mod LogLemmas
+pub mod CallerLemmas
+pub mod KeptLemmas
+pub mod PairLemmas
+pub mod StoreLemmas
+pub mod AwakeLemmas
