@@ -4,3 +4,4 @@ pub mod Meaning
 pub mod Compiled
 pub mod Codes
 pub mod Fit
+pub mod Keys

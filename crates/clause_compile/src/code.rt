@@ -9,6 +9,7 @@ ghost use Rattle.clause_compile.specs.Programs.{IsCode, inputs_of};
 ghost use Rattle.std.specs.Option.{option_copied};
 
 use crate::skeleton::ClauseCode;
+use clause_key::Key;
 use lp_resolve::{Pred, Preds};
 use ref_terms::{Sequence, Sym};
 
@@ -16,6 +17,7 @@ use ref_terms::{Sequence, Sym};
 #[derive(Debug, Drop)]
 pub struct Code {
     pub(crate) clauses: Sequence<ClauseCode>,
+    pub(crate) keys: Sequence<Key>,
     pub(crate) preds: Preds,
 }
 

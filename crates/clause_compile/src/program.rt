@@ -19,6 +19,7 @@ ghost use Rattle.clause_compile.specs.inside.Fit.{IsClauseFit, MadeOf};
 
 use crate::code::Code;
 use crate::compiling::compile_clause;
+use crate::keys::own_keys;
 use crate::skeleton::ClauseCode;
 use level_terms::Heap;
 use lp_resolve::{
@@ -183,6 +184,11 @@ pub fn compile(alloc: Global, heap: &mut Heap, checked: &Checked) -> Result<Code
     put_lines(alloc, &mut preds, program.decls.as_slice())?;
     put_clauses(alloc, &mut preds, program.clauses.as_slice())?;
     let clauses = clause_codes(alloc, heap, program.clauses.as_slice())?;
+    let keys = own_keys(alloc, heap, clauses.as_slice(), &preds)?;
     heap.is_sound();
-    Ok(Code { clauses, preds })
+    Ok(Code {
+        clauses,
+        keys,
+        preds,
+    })
 }

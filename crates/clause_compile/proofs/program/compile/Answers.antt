@@ -1,13 +1,18 @@
-use Rattle.std.proofs.Common.{◌∙◌, [], List, map, All, ap, sym, subst, refl}
-use Rattle.level_terms.proofs.GrowthLemmas.{grows-refl}
+use Rattle.std.proofs.Common.{◌≡◌, ◌∙◌, ℕ, [], List, map, All, ap, sym, subst}
+use Rattle.ref_terms.specs.search.Program.{Clause, modes_of}
+use Rattle.level_terms.specs.Graph.{Graph}
+use Rattle.level_terms.proofs.GrowthLemmas.{grows-refl, grows-trans}
 use Rattle.lp_resolve.specs.declared.program.ClauseTree.{ClauseTree}
 use Rattle.lp_resolve.specs.declared.program.PredLine.{PredLine}
 use Rattle.lp_resolve.specs.declared.program.Program.{Program}
-use Rattle.lp_resolve.specs.Plain.{plain_clause}
+use Rattle.lp_resolve.specs.Plain.{plain_clause, plain_program}
+use Rattle.clause_compile.specs.declared.skeleton.ClauseCode.{ClauseCode}
+use Rattle.lp_resolve.specs.Preds.{pred_at}
+use Rattle.clause_compile.specs.Programs.{inputs_of}
 use Rattle.lp_resolve.specs.Laws.{declared_first, headed_first}
 use Rattle.clause_compile.specs.inside.Codes.{AreClauseCodes}
 use Rattle.clause_compile.specs.inside.Fit.{IsClauseFit, MadeOf}
-use Rattle.clause_compile.proofs.CompiledLemmas.{closed-made}
+use Rattle.clause_compile.proofs.KeyLemmas.{own-shared, keys-same, heads-built}
 use Rattle.clause_compile.proofs.FitLemmas.{headed-fit}
 use Rattle.clause_compile.proofs.PredLemmas.{code-preds}
 use Rattle.clause_compile.proofs.program.compile.Goals as goal
@@ -22,20 +27,26 @@ returns-clause-code c = λ table.
     let same = c.as_slice-3.ensures ∙ ap (λ (p : Program). p.clauses) c.program-program.ensures.program in
     let lines = c.as_slice.ensures ∙ ap (λ (p : Program). p.decls) c.program-program.ensures.program in
     let heads = c.as_slice-2.ensures ∙ ap (λ (p : Program). p.clauses) c.program-program.ensures.program in
+    let codes = c.clause_codes.new.heap in
+    let h = c.own_keys.new.heap in
+    let stays : h ≡ codes = c.in_ok-keys.ensures.same in
+    let clauses = subst (λ (ks : List ClauseTree). AreClauseCodes codes.nodes c.in_ok-clauses.clauses (map plain_clause ks)) same c.in_ok-clauses.ensures.codes in
+    let plain : List Clause = map plain_clause c.args.checked.now.clauses in
+    let modes : (s : ℕ) → inputs_of (pred_at s c.put_clauses.new.preds) ≡ modes_of (plain_program table c.args.checked.now) s = λ s. code-preds s c.new-preds.result c.put_lines.new.preds c.put_clauses.new.preds c.args.checked.now.decls c.args.checked.now.clauses c.new-preds.ensures
+    (subst (λ (ds : List PredLine). MadeOf c.new-preds.result c.put_lines.new.preds (λ t. declared_first t ds)) lines c.in_ok-put_lines.ensures)
+    (subst (λ (ks : List ClauseTree). MadeOf c.put_lines.new.preds c.put_clauses.new.preds (λ t. headed_first t ks)) heads c.in_ok-put_clauses.ensures)
+    (headed-fit c.args.checked.now.clauses c.clauses_fit.ensures) in
     record {
-      nodes = c.clause_codes.new.heap.nodes;
-      shared = record {
-        new = [];
-        is = refl;
-        count = refl;
-        closed = closed-made c.clause_codes.new.heap c.is_sound.ensures c.in_ok-clauses.ensures.closed;
-      };
-      clauses = subst (λ (ks : List ClauseTree). AreClauseCodes c.clause_codes.new.heap.nodes c.in_ok-clauses.clauses (map plain_clause ks)) same c.in_ok-clauses.ensures.codes;
-      preds = λ s. code-preds s c.new-preds.result c.put_lines.new.preds c.put_clauses.new.preds c.args.checked.now.decls c.args.checked.now.clauses c.new-preds.ensures
-          (subst (λ (ds : List PredLine). MadeOf c.new-preds.result c.put_lines.new.preds (λ t. declared_first t ds)) lines c.in_ok-put_lines.ensures)
-          (subst (λ (ks : List ClauseTree). MadeOf c.put_lines.new.preds c.put_clauses.new.preds (λ t. headed_first t ks)) heads c.in_ok-put_clauses.ensures)
-          (headed-fit c.args.checked.now.clauses c.clauses_fit.ensures);
+      nodes = h.nodes;
+      shared = own-shared h c.is_sound.ensures (ap (λ (g : Graph). g.depths) stays ∙ c.in_ok-clauses.ensures.closed);
+      clauses = subst (λ (g : Graph). AreClauseCodes g.nodes c.in_ok-clauses.clauses plain) (sym stays) clauses;
+      keys = c.in_ok-keys.ensures.keys plain (subst (λ (cs : List ClauseCode). AreClauseCodes codes.nodes cs plain) (sym c.as_slice-4.ensures) clauses) (heads-built c.args.checked.now.clauses)
+          ∙ keys-same (plain_program table c.args.checked.now) c.put_clauses.new.preds modes plain;
+      preds = modes;
     }
+
+pub returns-in_err-keys-clause-grows : goal.returns-in_err-keys-clause-grows
+returns-in_err-keys-clause-grows c = grows-trans c.args.heap.now c.clause_codes.new.heap c.own_keys.new.heap [] [] [] c.in_ok-clauses.ensures.grows c.own_keys.ensures.grows
 
 pub returns-in_err-put_lines-clause-grows : goal.returns-in_err-put_lines-clause-grows
 returns-in_err-put_lines-clause-grows c = grows-refl c.args.heap.now []

@@ -1,0 +1,4 @@
+pub mod EqLemmas
+pub mod ListLemmas
+pub mod OrderLemmas
+pub mod NumberLemmas
