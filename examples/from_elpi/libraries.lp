@@ -1,5 +1,5 @@
-% There is no `std` and there are no dotted names. These lines are those of lib/lists.lp; a file can also go before
-% the program, as in `cat lib/lists.lp mine.lp | ./doqwesha run --query GOAL /dev/stdin`.
+% There is no `std` and there are no dotted names. These lines are those of lib/lists.lp; the file can also be named beside
+% the program's own, as in `./doqwesha run --query GOAL lib/lists.lp mine.lp`.
 pred append i:list A, i:list A, o:list A.
 append [] Ys Ys.
 append (X :: Xs) Ys (X :: Zs) :- append Xs Ys Zs.

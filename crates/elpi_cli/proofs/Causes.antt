@@ -12,17 +12,18 @@ use Rattle.ref_terms.specs.search.Program.{Program, Query}
 use Rattle.ref_terms.specs.search.State.{Event}
 use Rattle.ref_terms.specs.search.Events.{events, first_state}
 use Rattle.elpi_cli.specs.declared.words.Command.{Command}
-use Rattle.elpi_cli.specs.declared.words.Command.TheVariants.{Run}
+use Rattle.elpi_cli.specs.declared.words.Command.TheVariants.{Run, Gen}
 use Rattle.elpi_cli.specs.declared.status.Status.{Status}
 use Rattle.elpi_cli.specs.declared.status.Status.TheVariants.{Done, NoAnswer, Words, Refused, Fault, Budget, Missing, TooLong, ReadFault, WriteFault, Memory}
-use Rattle.elpi_cli.specs.Words.{command}
+use Rattle.elpi_cli.specs.Words.{usual_steps, command}
+use Rattle.elpi_cli.specs.Samples.{sample_files, sample_query}
 use Rattle.elpi_cli.specs.Output.{Output, line, written, searched}
 use Rattle.lp_resolve.specs.StaticRules.{Breach, first_breach}
 use Rattle.elpi_cli.specs.Resolved.{resolved_program, searched_program, searched_query}
 use Rattle.elpi_cli.specs.Static.{breach_line}
 use Rattle.elpi_cli.specs.Texts.{files_read, items_of, FileItems, all_items, items_read, goal_of}
 use Rattle.elpi_cli.specs.Built.{unbuilt_file, not_yet_line}
-use Rattle.elpi_cli.specs.Top.{output, command_output, files_output, texts_output, checked_output, query_output, built_output, word_at, file_names, files_for, known_files, IsReached, IsStatusOf, IsRunOf}
+use Rattle.elpi_cli.specs.Top.{output, task_of, task_output, command_output, files_output, texts_output, checked_output, query_output, built_output, word_at, file_names, files_for, known_files, IsReached, IsStatusOf, IsRunOf}
 use Rattle.elpi_cli.specs.Causes.{EndsWith, IsFailure, ComesBy, ComesExactlyBy, IsComplete, IsBadWord, IsMissing, IsTooLong, IsReady, IsRefusedFile, AreChecked, IsRefusedProgram, IsRefusedQuery, IsUnbuiltFile, IsRefused, Searches, Shows, IsFault, IsOutOfSteps, IsNoAnswer, IsDone}
 use Rattle.elpi_cli.proofs.CausesSearch.{SearchCause, search-cause, search-status}
 use Rattle.elpi_cli.proofs.CausesTexts.{IsFileRefusal, within-files, missing-file, long-file, refused-file, refused-file-text, refused-text, missing_line, too_long_line}
@@ -92,19 +93,23 @@ by-refusal : (words : List (List ℕ)) (told : List FileEntry) (name : List ℕ)
 by-refusal words told name refusal reached (inl why) = subst (HasCauseIn words told) (sym why.1) (missing_line name, (name, reached, why.0, refl), ([], refl))
 by-refusal words told name refusal reached (inr why) = subst (HasCauseIn words told) (sym why.1) (too_long_line name, (name, reached, why.0, refl), ([], refl))
 
--- the cause, where the words are a command
+-- the cause, where the words are a command that names files
 by-files : (words : List (List ℕ)) (told : List FileEntry) (steps answers query : ℕ) (indices : List ℕ) (r : Result (List FileEntry) Output) → command words ≡ Ok (Run steps answers query indices) → files_read told (map (word_at words) indices) ≡ r
     → HasCauseIn words told (files_output steps answers (word_at words query) r)
 by-files words told steps answers query indices (Err refusal) asked is =
     let h = refused-file told (map (word_at words) indices) refusal is in
     by-refusal words told h.0 refusal (subst (λ (c : Result Command ℕ). IsReached told (file_names words c) h.0) (sym asked) h.1) h.2
 by-files words told steps answers query indices (Ok files) asked is =
-    by-items words told steps answers (word_at words query) files (items_read 0 files) (record { query_index = query; file_indices = indices; command_is = asked; query_is = refl; files_are = is }) refl
+    let task : task_of words told (Run steps answers query indices) ≡ record { steps = steps; answers = answers; query = word_at words query; files = Ok files } =
+    ap (λ (r : Result (List FileEntry) Output). record { steps = steps; answers = answers; query = word_at words query; files = r }) is in
+    by-items words told steps answers (word_at words query) files (items_read 0 files) (record { asked = Run steps answers query indices; command_is = asked; task_is = task }) refl
 
 -- the cause, by the words
 by-command : (words : List (List ℕ)) (told : List FileEntry) (c : Result Command ℕ) → command words ≡ c → HasCauseIn words told (command_output words told c)
 by-command words told (Err index) is = (codes "words: bad word at " ++ line (decimal index), (index, is, refl), ([], refl))
 by-command words told (Ok (Run steps answers query indices)) is = by-files words told steps answers query indices (files_read told (map (word_at words) indices)) is refl
+by-command words told (Ok (Gen size)) is =
+    by-items words told usual_steps 1 sample_query (sample_files size) (items_read 0 (sample_files size)) (record { asked = Gen size; command_is = is; task_is = refl }) refl
 
 -- the output of a run has the cause of its status
 pub run-cause : (words : List (List ℕ)) (told : List FileEntry) → HasCauseIn words told (output words told)
@@ -127,13 +132,12 @@ refused-reached words told name refusal (Ok (Run steps answers query indices)) r
     let read : files_read told (map (word_at words) indices) ≡ Err refusal =
     ap (files_read told) reached.2 ∙ within-files told reached.0 (name ∷ reached.1) refusal reached.3 (refused reached.1) in
     ap (files_output steps answers (word_at words query)) read
+refused-reached words told name refusal (Ok (Gen size)) reached refused = absurd (not-reached told name reached)
 
 -- the output of a command whose files are read
 ready-output : (words : List (List ℕ)) (told : List FileEntry) (steps answers : ℕ) (query : List ℕ) (files : List FileEntry) → IsReady words told steps answers query files → output words told ≡ texts_output steps answers query files (items_read 0 files)
 ready-output words told steps answers query files ready =
-    ap (command_output words told) ready.command_is
-    ∙ ap (files_output steps answers (word_at words ready.query_index)) ready.files_are
-    ∙ ap (λ (text : List ℕ). texts_output steps answers text files (items_read 0 files)) (sym ready.query_is)
+    ap (command_output words told) ready.command_is ∙ ap task_output ready.task_is
 
 -- the output over files that are accepted
 read-output : (steps answers : ℕ) (query : List ℕ) (files : List FileEntry) (items : List FileItems) → items_read 0 files ≡ Ok items

@@ -1,6 +1,9 @@
+pub mod Indices
 pub mod Progress
 pub mod Lines
 pub mod SearchEvents
+pub mod ReadFiles
+pub mod ReadTexts
 pub mod Begins
 pub mod Checking
 pub mod Whole

@@ -1,5 +1,5 @@
 -- From what a part wrote to what the whole run wrote.
-use Rattle.std.proofs.Common.{◌≡◌, ◌≢◌, ℕ, zero, suc, List, [], ◌∷◌, map, None, Some, Ok, Err, IfSome, IfOk, refl, ap, sym, ◌∙◌, subst, inl, inr, nat_eq, cond, true, false, Bool, ◌⊎◌, IsSome, codes}
+use Rattle.std.proofs.Common.{◌≡◌, ◌≢◌, ℕ, zero, suc, List, [], ◌∷◌, map, None, Some, Ok, Err, IfSome, IfOk, IsOkAnd, refl, ap, sym, ◌∙◌, subst, inl, inr, nat_eq, cond, true, false, Bool, ◌⊎◌, IsSome, codes}
 use Rattle.std.proofs.lemmas.List.{append-nil}
 use Rattle.std.specs.List.{concat}
 use Rattle.std.specs.declared.option.Option.{Option}
@@ -13,22 +13,25 @@ use Rattle.goal_run.specs.Machine.{state_of}
 use Rattle.ref_terms.specs.search.State.{Event, Moved, Printed, Answered, Failure, Faulted}
 use Rattle.ref_terms.specs.texts.Answer.{answer_block}
 use Rattle.elpi_cli.specs.declared.status.Status.{Status}
-use Rattle.elpi_cli.specs.declared.status.Status.TheVariants.{Done, NoAnswer, Words, Fault, Budget, ReadFault, WriteFault, Memory}
+use Rattle.elpi_cli.specs.declared.status.Status.TheVariants.{Done, NoAnswer, Words, Refused, Fault, Budget, Missing, TooLong, ReadFault, WriteFault, Memory}
 use Rattle.elpi_cli.specs.Output.{Output, line, line_only, preceded, after_failure, written}
 use Rattle.elpi_cli.specs.Written.{IsWritten, IsWholePieces}
-use Rattle.lam_io.specs.Reads.{bytes_of}
 use Rattle.std.specs.declared.result.Result.{Result}
+use Rattle.elpi_cli.specs.declared.sources.FileStop.{FileStop}
+use Rattle.elpi_cli.specs.declared.sources.FileStop.TheVariants as unread
 use Rattle.elpi_cli.specs.declared.words.Command.{Command}
-use Rattle.elpi_cli.specs.declared.words.Command.TheVariants.{Run}
-use Rattle.elpi_cli.specs.Words.{command}
-use Rattle.elpi_cli.specs.Texts.{with_file}
-use Rattle.elpi_cli.specs.Top.{output, word_at, file_names, files_output, command_output, files_for, known_files, IsRunOf, IsReadFault, IsStatusOf}
+use Rattle.elpi_cli.specs.declared.words.Command.TheVariants.{Run, Gen}
+use Rattle.elpi_cli.specs.Words.{usual_steps, command}
+use Rattle.elpi_cli.specs.Texts.{files_read}
+use Rattle.elpi_cli.specs.Samples.{sample_files, sample_query}
+use Rattle.elpi_cli.specs.Top.{output, word_at, file_names, files_output, command_output, files_for, known_files, IsReached, IsRunOf, IsReadFault, IsStatusOf}
 use Rattle.std.specs.Bool.{⊤}
 use Rattle.std.specs.String.{string_bytes}
 use Rattle.elpi_cli.specs.declared.top.Job.{Job}
 use Rattle.elpi_cli.specs.declared.top.Prepared.{Prepared}
 use Rattle.elpi_cli.specs.declared.top.Prepared.TheVariants.{Search, Line}
-use Rattle.elpi_cli.specs.inside.Prepared.{Loads, Prepares, IsOutputOf, HasSomeOutput, status_of}
+use Rattle.elpi_cli.specs.inside.Prepared.{Prepares, IsOutputOf, HasSomeOutput, IsLineOf, status_of, IsFileStatus, IsTextStatus}
+use Rattle.elpi_cli.specs.inside.Sources.{IsFailedRead, IsFileStop, StopsAtFiles}
 
 -- what the part was to write is the whole output
 exact-run : (words : List (List ℕ)) (files : List FileEntry) (read_failed : Type 0) (out : Output) (status : Status) (bytes : List ℕ) → output words files ≡ out → status ≢ ReadFault → IsWritten out status bytes → IsRunOf words files read_failed status bytes
@@ -129,26 +132,99 @@ pub whole-status : (known : Option (List FileEntry)) (words : List (List ℕ)) (
 whole-status None words prepared result prepares ends = tt
 whole-status (Some files) words prepared result prepares ends = status-of words files prepared result prepares ends
 
--- a command's file, by its name
-command-file : (words : List (List ℕ)) (told : List FileEntry) (steps answers query file : ℕ) → command words ≡ Ok (Run steps answers query (file ∷ []))
-    → output words told ≡ files_output steps answers (word_at words query) (with_file (word_at words file) (bytes_of told (word_at words file)) (Ok []))
-command-file words told steps answers query file is = ap (command_output words told) is
+-- the output of a run, which no failed read ends
+of-output : (words : List (List ℕ)) (told : List FileEntry) (prepared : Prepared) → IsTextStatus (status_of prepared) → IsOutputOf (output words told) prepared → Prepares words told prepared
+of-output words told (Search job) status is = is
+of-output words told (Line text ReadFault) status is = absurd status
+of-output words told (Line text other) status is = is
 
--- what was loaded of it is what the run prepares
-loads-prepares : (words : List (List ℕ)) (told : List FileEntry) (steps answers query file : ℕ) (prepared : Prepared) → command words ≡ Ok (Run steps answers query (file ∷ []))
-    → Loads (word_at words file) (bytes_of told (word_at words file)) (files_output steps answers (word_at words query) (with_file (word_at words file) (bytes_of told (word_at words file)) (Ok []))) prepared → Prepares words told prepared
-loads-prepares words told steps answers query file (Search job) is loads = subst (λ (o : Output). IsOutputOf o (Search job)) (sym (command-file words told steps answers query file is)) loads
-loads-prepares words told steps answers query file (Line text ReadFault) is loads =
-    (word_at words file, (([], [], ap (file_names words) is, tt), loads.0), loads.1)
-loads-prepares words told steps answers query file (Line text status) is loads = command-file words told steps answers query file is ∙ loads
+-- what is prepared, for all files that may be told, where the words are this command
+for-command : (words : List (List ℕ)) (known : Option (List FileEntry)) (c : Command) (prepared : Prepared) → command words ≡ Ok c → IfSome (files_for (file_names words (Ok c)) known) (λ told. Prepares words told prepared)
+    → IfSome (known_files words known) (λ told. Prepares words told prepared)
+for-command words known c prepared is prepares =
+    subst (λ (r : Result Command ℕ). IfSome (files_for (file_names words r) known) (λ told. Prepares words told prepared)) (sym is) prepares
 
--- so for the files that a command may read
-pub command-prepares : {E : Type 0} (words : List (List ℕ)) (told : Option (List FileEntry)) (steps answers query file : ℕ) (name text : List ℕ) (r : Result Prepared E) → command words ≡ Ok (Run steps answers query (file ∷ []))
-    → word_at words file ≡ name → word_at words query ≡ text
-    → IfOk r (λ prepared. IfSome told (λ files. Loads name (bytes_of files name) (files_output steps answers text (with_file name (bytes_of files name) (Ok []))) prepared))
-    → IfOk r (λ prepared. IfSome (known_files words told) (λ files. Prepares words files prepared))
-command-prepares words told steps answers query file name text (Err e) is named asked loads = tt
-command-prepares words None steps answers query file name text (Ok prepared) is named asked loads = rw (ap (λ (c : Result Command ℕ). files_for (file_names words c) None) is) tt
-command-prepares words (Some files) steps answers query file name text (Ok prepared) is named asked loads =
-    rw (ap (λ (c : Result Command ℕ). files_for (file_names words c) (Some files)) is)
-    (loads-prepares words files steps answers query file prepared is (rw (named, asked) loads))
+-- the same from what holds of all files that may be told
+for-each : (words : List (List ℕ)) (known : Option (List FileEntry)) (c : Command) (P : List FileEntry → Type 0) (prepared : Prepared) → command words ≡ Ok c → IfSome (files_for (file_names words (Ok c)) known) P
+    → ((told : List FileEntry) → P told → Prepares words told prepared) → IfSome (known_files words known) (λ told. Prepares words told prepared)
+for-each words known c P prepared is holds prepares = for-command words known c prepared is (go (files_for (file_names words (Ok c)) known) holds)
+  where
+    go : (told : Option (List FileEntry)) → IfSome told P → IfSome told (λ t. Prepares words t prepared)
+    go None none = tt
+    go (Some told) some = prepares told some
+
+-- a text's line is of no failed read
+abbrev pub EndsAtText : {E : Type 0} → Result Prepared E → Type 0
+EndsAtText r = IfOk r (λ prepared. IsTextStatus (status_of prepared))
+
+-- what is prepared of files that are all read
+pub files-prepare : {E : Type 0} (words : List (List ℕ)) (known : Option (List FileEntry)) (steps answers query : ℕ) (indices : List ℕ) (files : List FileEntry) (text : List ℕ) (r : Result Prepared E) → command words ≡ Ok (Run steps answers query indices) → text ≡ word_at words query
+    → IfSome (files_for (map (word_at words) indices) known) (λ told. files_read told (map (word_at words) indices) ≡ Ok files) → IfOk r (IsOutputOf (files_output steps answers text (Ok files))) → EndsAtText r
+    → IfOk r (λ prepared. IfSome (known_files words known) (λ told. Prepares words told prepared))
+files-prepare words known steps answers query indices files text (Err e) is asked read writes ends = tt
+files-prepare words known steps answers query indices files text (Ok prepared) is asked read writes ends =
+    for-each words known (Run steps answers query indices) (λ (told : List FileEntry). files_read told (map (word_at words) indices) ≡ Ok files) prepared is read (λ told all.
+    of-output words told prepared ends
+    (subst (λ (o : Output). IsOutputOf o prepared) (sym (ap (command_output words told) is ∙ ap (files_output steps answers (word_at words query)) all ∙ ap (λ (q : List ℕ). files_output steps answers q (Ok files)) (sym asked))) writes))
+
+-- what is prepared of the program that comes with the interpreter
+pub sample-prepares : {E : Type 0} (words : List (List ℕ)) (known : Option (List FileEntry)) (size : ℕ) (r : Result Prepared E) → command words ≡ Ok (Gen size) → IfOk r (IsOutputOf (files_output usual_steps 1 sample_query (Ok (sample_files size)))) → EndsAtText r
+    → IfOk r (λ prepared. IfSome (known_files words known) (λ told. Prepares words told prepared))
+sample-prepares words known size (Err e) is writes ends = tt
+sample-prepares words known size (Ok prepared) is writes ends =
+    for-command words known (Gen size) prepared is (of-output words [] prepared ends (subst (λ (o : Output). IsOutputOf o prepared) (sym (ap (command_output words []) is)) writes))
+
+-- the line of a file that isn't read
+stop-prepares : (words : List (List ℕ)) (told : List FileEntry) (steps answers query : ℕ) (indices : List ℕ) (stop : FileStop) (prepared : Prepared) → command words ≡ Ok (Run steps answers query indices)
+    → StopsAtFiles told (map (word_at words) indices) stop → IsLineOf stop prepared → Prepares words told prepared
+stop-prepares words told steps answers query indices (unread.Unread line ReadFault) prepared is stops line_is =
+    subst (Prepares words told) (sym line_is) (stops.0, (subst (λ (c : Result Command ℕ). IsReached told (file_names words c) stops.0) (sym is) stops.1, stops.2), stops.3)
+stop-prepares words told steps answers query indices (unread.Unread line status) prepared is stops line_is =
+    subst (Prepares words told) (sym line_is) (ap (command_output words told) is ∙ ap (files_output steps answers (word_at words query)) stops)
+stop-prepares words told steps answers query indices unread.Memory prepared is stops line_is = absurd line_is
+
+-- so for all files that may be told
+pub stopped-prepares : {E : Type 0} (words : List (List ℕ)) (known : Option (List FileEntry)) (steps answers query : ℕ) (indices : List ℕ) (stop : FileStop) (r : Result Prepared E) → command words ≡ Ok (Run steps answers query indices)
+    → IfSome (files_for (map (word_at words) indices) known) (λ told. StopsAtFiles told (map (word_at words) indices) stop) → IfOk r (IsLineOf stop) → IfOk r (λ prepared. IfSome (known_files words known) (λ told. Prepares words told prepared))
+stopped-prepares words known steps answers query indices stop (Err e) is stops line_is = tt
+stopped-prepares words known steps answers query indices stop (Ok prepared) is stops line_is =
+    for-each words known (Run steps answers query indices) (λ (told : List FileEntry). StopsAtFiles told (map (word_at words) indices) stop) prepared is stops (λ told at_files. stop-prepares words told steps answers query indices stop prepared is at_files line_is)
+
+-- that line is an output
+pub line-output : {E : Type 0} (stop : FileStop) (r : Result Prepared E) → IfOk r (IsLineOf stop) → IfOk r HasSomeOutput
+line-output stop (Err e) is = tt
+line-output (unread.Unread line status) (Ok prepared) is = subst HasSomeOutput (sym is) (line_only (string_bytes line) status, refl)
+line-output unread.Memory (Ok prepared) is = absurd is
+
+-- it has the status of its file
+pub line-status : {E : Type 0} (stop : FileStop) (r : Result Prepared E) → IsFileStop stop → IfOk r (IsLineOf stop) → IfOk r (λ prepared. IsFileStatus (status_of prepared))
+line-status stop (Err e) status is = tt
+line-status (unread.Unread line Missing) (Ok prepared) status is = subst (λ (p : Prepared). IsFileStatus (status_of p)) (sym is) tt
+line-status (unread.Unread line TooLong) (Ok prepared) status is = subst (λ (p : Prepared). IsFileStatus (status_of p)) (sym is) tt
+line-status (unread.Unread line ReadFault) (Ok prepared) status is = subst (λ (p : Prepared). IsFileStatus (status_of p)) (sym is) tt
+line-status (unread.Unread line other) (Ok prepared) status is = absurd status
+line-status unread.Memory (Ok prepared) status is = absurd is
+
+-- and it is of a failed read only where one failed
+pub line-failed : {E : Type 0} (stop : FileStop) (r : Result Prepared E) → IfOk r (IsLineOf stop) → IsOkAnd r (λ prepared. status_of prepared ≡ Some ReadFault) → IsFailedRead stop
+line-failed stop (Err e) is failed = absurd failed
+line-failed (unread.Unread line ReadFault) (Ok prepared) is failed = tt
+line-failed (unread.Unread line status) (Ok prepared) is failed = absurd (let same : Some status ≡ Some ReadFault = ap status_of (sym is) ∙ failed in cc)
+line-failed unread.Memory (Ok prepared) is failed = absurd is
+
+-- a text is no failed read
+pub text-not-failed : {E : Type 0} (r : Result Prepared E) → EndsAtText r → IsOkAnd r (λ prepared. status_of prepared ≡ Some ReadFault) → ⊥
+text-not-failed (Err e) ends failed = failed
+text-not-failed (Ok prepared) ends failed = subst IsTextStatus failed ends
+
+-- the status of a text is one of a file's line
+pub text-status : {E : Type 0} (r : Result Prepared E) → EndsAtText r → IfOk r (λ prepared. IsFileStatus (status_of prepared))
+text-status (Err e) ends = tt
+text-status (Ok (Search job)) ends = tt
+text-status (Ok (Line text Refused)) ends = tt
+text-status (Ok (Line text status)) ends = absurd ends
+
+-- an output of what is prepared is some
+pub some-output : {E : Type 0} (whole : Output) (r : Result Prepared E) → IfOk r (IsOutputOf whole) → IfOk r HasSomeOutput
+some-output whole (Err e) is = tt
+some-output whole (Ok prepared) is = (whole, is)

@@ -1,6 +1,7 @@
 -- What reading the texts gives the search.
-use Rattle.std.specs.Prelude.{◌≡◌, ℕ, List, [], ◌∷◌, true, false, ⊤, None, Some, Ok, Err, codes}
+use Rattle.std.specs.Prelude.{◌≡◌, ℕ, List, ⊤, None, Some, Ok, Err, codes, option_map, if◌then◌else◌}
 use Rattle.std.specs.String.{string_bytes}
+use Rattle.std.specs.declared.option.Option.{Option}
 use Rattle.std.specs.declared.result.Result.{Result}
 use Rattle.lam_io.specs.declared.byte_text.FileEntry.{FileEntry}
 use Rattle.lp_lexer.specs.Lexing.{Lexed}
@@ -15,18 +16,19 @@ use Rattle.lp_resolve.specs.StaticRules.{Breach, first_breach}
 use Rattle.lp_resolve.specs.Plain.{plain_program, plain_query}
 use Rattle.ref_terms.specs.search.Events.{first_state}
 use Rattle.elpi_cli.specs.declared.built.Engine.{Engine}
+use Rattle.elpi_cli.specs.declared.texts.ProgramText.{ProgramText}
 use Rattle.elpi_cli.specs.declared.texts.TextStop.{TextStop}
 use Rattle.elpi_cli.specs.declared.texts.TextStop.TheVariants.{Refused, Memory}
 use Rattle.goal_run.specs.Machine.{Runs, state_of}
 use Rattle.elpi_cli.specs.inside.Searching.{HasOutput}
-use Rattle.elpi_cli.specs.Output.{line_only, searched}
+use Rattle.elpi_cli.specs.Output.{line_only}
 use Rattle.elpi_cli.specs.Top.{texts_output}
 use Rattle.elpi_cli.specs.declared.status.Status.TheVariants as Status
-use Rattle.elpi_cli.specs.Resolved.{program_table, resolved_program, searched_program, searched_query}
+use Rattle.elpi_cli.specs.Resolved.{program_table, resolved_program, query_table, resolved_query}
 use Rattle.elpi_cli.specs.Forms.{are_built}
-use Rattle.elpi_cli.specs.Texts.{FileItems, all_items, file_of, grammar_name, grammar_line}
-use Rattle.elpi_cli.specs.Built.{not_yet_line}
-use Rattle.elpi_cli.specs.Static.{breach_line}
+use Rattle.elpi_cli.specs.Texts.{FileItems, all_items, items_read, grammar_name, grammar_line}
+use Rattle.elpi_cli.specs.Built.{unbuilt_file}
+use Rattle.elpi_cli.specs.Static.{file_with, breach_line}
 
 -- the text is refused with this line, unless memory is wanting
 abbrev pub IsRefusal : List ℕ → TextStop → Type 0
@@ -77,29 +79,33 @@ pub record IsEngineFor (program : Program) (query : Query) (table : List (List �
   pub begins : state_of (plain_program table program) engine.machine ≡ first_state (plain_query query)
   pub variables : engine.machine.variables ≡ query.vars
 
--- the one file of this name with these items
-abbrev pub one : (name : List ℕ) → List Item → List FileItems
-one name items = file_of name items ∷ []
+-- the engine for a goal over items
+abbrev pub IsEngineOf : List Item → AstTerm → Engine → Type 0
+IsEngineOf items goal engine = IsEngineFor (resolved_program items) (resolved_query items goal) (query_table items goal) engine
 
--- the search of a goal over the items of a file, which are built
-pub record IsEngineOf (name : List ℕ) (items : List Item) (goal : AstTerm) (engine : Engine) : Type 0 where
-  pub built : are_built items ≡ true
-  pub output : (steps limit : ℕ) → HasOutput engine.symbols engine.machine steps limit
-      (searched (searched_program (all_items (one name items)) goal) (searched_query (all_items (one name items)) goal) steps limit)
+-- the name of the file with a number
+abbrev pub name_at : List FileEntry → (number : ℕ) → List ℕ
+name_at files number = (file_with files number).name
 
--- the file isn't built, and the line says so, unless memory is wanting
-abbrev pub IsUnbuilt : (name : List ℕ) → List Item → TextStop → Type 0
-IsUnbuilt name items (Refused last) = (are_built items ≡ false) × (string_bytes last ≡ not_yet_line name)
-IsUnbuilt name items Memory = ⊤
+-- the first file that isn't built, after one more with this number and these items
+abbrev pub or_unbuilt : Option ℕ → (number : ℕ) → List Item → Option ℕ
+or_unbuilt (Some first) number items = Some first
+or_unbuilt None number items = if are_built items then None else Some number
 
--- what building the search may answer
-abbrev pub BuildsEngine : (name : List ℕ) → List Item → AstTerm → Result Engine TextStop → Type 0
-BuildsEngine name items goal (Ok engine) = IsEngineOf name items goal engine
-BuildsEngine name items goal (Err stop) = IsUnbuilt name items stop
+-- the items of all files, and the number of the first file that isn't built
+pub record IsProgramText (files : List FileEntry) (items : List FileItems) (ast : List Item) (unbuilt : Option ℕ) : Type 0 where
+  pub ast_is : ast ≡ all_items items
+  pub unbuilt_is : unbuilt_file items ≡ option_map (name_at files) unbuilt
 
--- What the texts behind the file's items may give: the engine that writes the output of the run, for any limits, or the
+-- what reading the texts of files may answer
+abbrev pub ReadsProgram : List FileEntry → Result ProgramText TextStop → Type 0
+ReadsProgram files (Ok program) = (items : List FileItems) × (items_read 0 files ≡ Ok items) × IsProgramText files items program.ast program.unbuilt
+ReadsProgram files (Err (Refused last)) = items_read 0 files ≡ Err (line_only (string_bytes last) Status.Refused)
+ReadsProgram files (Err Memory) = ⊤
+
+-- What the texts behind the files' items may give: the engine that writes the output of the run, for any limits, or the
 -- line that is this output, where one of the texts is refused.
-abbrev pub BeginsRun : FileEntry → List Item → (query : List ℕ) → Result Engine TextStop → Type 0
-BeginsRun file items query (Ok engine) = (steps limit : ℕ) → HasOutput engine.symbols engine.machine steps limit (texts_output steps limit query (file ∷ []) (Ok (one file.name items)))
-BeginsRun file items query (Err (Refused last)) = (steps limit : ℕ) → texts_output steps limit query (file ∷ []) (Ok (one file.name items)) ≡ line_only (string_bytes last) Status.Refused
-BeginsRun file items query (Err Memory) = ⊤
+abbrev pub BeginsRun : List FileEntry → List FileItems → (query : List ℕ) → Result Engine TextStop → Type 0
+BeginsRun files items query (Ok engine) = (steps limit : ℕ) → HasOutput engine.symbols engine.machine steps limit (texts_output steps limit query files (Ok items))
+BeginsRun files items query (Err (Refused last)) = (steps limit : ℕ) → texts_output steps limit query files (Ok items) ≡ line_only (string_bytes last) Status.Refused
+BeginsRun files items query (Err Memory) = ⊤

@@ -1,5 +1,5 @@
 -- What each status of a run comes of, and the last line that says so.
-use Rattle.std.specs.Prelude.{◌≡◌, ℕ, suc, ◌+◌, ◌<◌, List, [], ◌∷◌, ◌++◌, ◌⊎◌, ⊤, map, length, None, Some, Ok, Err, codes, IsSomeAnd, IsOk}
+use Rattle.std.specs.Prelude.{◌≡◌, ℕ, suc, ◌+◌, ◌<◌, List, [], ◌∷◌, ◌++◌, ◌⊎◌, ⊤, length, None, Some, Ok, Err, codes, IsSomeAnd, IsOk}
 use Rattle.std.specs.Fmt.{decimal}
 use Rattle.std.specs.List.{concat}
 use Rattle.std.specs.declared.option.Option.{Option}
@@ -14,7 +14,7 @@ use Rattle.ref_terms.specs.search.Program.{Program, Query}
 use Rattle.ref_terms.specs.search.Branch.{Branch}
 use Rattle.ref_terms.specs.search.State.{Event, Answered, Failure, Faulted}
 use Rattle.ref_terms.specs.search.Events.{events, first_state}
-use Rattle.elpi_cli.specs.declared.words.Command.TheVariants.{Run}
+use Rattle.elpi_cli.specs.declared.words.Command.{Command}
 use Rattle.elpi_cli.specs.declared.status.Status.{Status}
 use Rattle.elpi_cli.specs.declared.status.Status.TheVariants.{ReadFault, WriteFault, Memory}
 use Rattle.elpi_cli.specs.Words.{command}
@@ -22,9 +22,9 @@ use Rattle.elpi_cli.specs.Output.{Output, line}
 use Rattle.lp_resolve.specs.StaticRules.{Breach, first_breach}
 use Rattle.elpi_cli.specs.Resolved.{resolved_program, searched_program, searched_query}
 use Rattle.elpi_cli.specs.Static.{breach_line}
-use Rattle.elpi_cli.specs.Texts.{file_limit, files_read, items_of, FileItems, all_items, items_read, goal_of}
+use Rattle.elpi_cli.specs.Texts.{file_limit, items_of, FileItems, all_items, items_read, goal_of}
 use Rattle.elpi_cli.specs.Built.{unbuilt_file, not_yet_line}
-use Rattle.elpi_cli.specs.Top.{word_at, file_names, IsReached}
+use Rattle.elpi_cli.specs.Top.{task_of, file_names, IsReached}
 
 -- the last piece of the output is this line
 abbrev pub EndsWith : Output → List ℕ → Type 0
@@ -68,13 +68,11 @@ IsTooLong words told last =
     (name : List ℕ) × IsReached told (file_names words (command words)) name
     × IsSomeAnd (bytes_of told name) (λ bytes. file_limit < length bytes) × (last ≡ codes "too long: " ++ line name)
 
--- the words are a command with this query and these limits, and its files are read as these
+-- the words are a command that asks for this query over these files, with these limits
 pub record IsReady (words : List (List ℕ)) (told : List FileEntry) (steps answers : ℕ) (query : List ℕ) (files : List FileEntry) : Type 0 where
-  pub query_index : ℕ
-  pub file_indices : List ℕ
-  pub command_is : command words ≡ Ok (Run steps answers query_index file_indices)
-  pub query_is : query ≡ word_at words query_index
-  pub files_are : files_read told (map (word_at words) file_indices) ≡ Ok files
+  pub asked : Command
+  pub command_is : command words ≡ Ok asked
+  pub task_is : task_of words told asked ≡ record { steps = steps; answers = answers; query = query; files = Ok files }
 
 -- tokens and grammar accept the texts of these files, where the first has this number
 abbrev pub AreAccepted : (file : ℕ) → List FileEntry → Type 0

@@ -6,6 +6,7 @@ pub mod Forms
 pub mod Output
 pub mod Positions
 pub mod Resolved
+pub mod Samples
 pub mod Static
 pub mod Texts
 pub mod Top

@@ -9,10 +9,11 @@ use Rattle.lam_io.specs.Reads.{bytes_of}
 use Rattle.lam_io.specs.Writes.{IsFront}
 use Rattle.lp_parser.specs.declared.ast.AstTerm.{AstTerm}
 use Rattle.elpi_cli.specs.declared.words.Command.{Command}
-use Rattle.elpi_cli.specs.declared.words.Command.TheVariants.{Run}
+use Rattle.elpi_cli.specs.declared.words.Command.TheVariants.{Run, Gen}
 use Rattle.elpi_cli.specs.declared.status.Status.{Status}
 use Rattle.elpi_cli.specs.declared.status.Status.TheVariants.{Words, Refused, ReadFault, WriteFault, Memory}
-use Rattle.elpi_cli.specs.Words.{command}
+use Rattle.elpi_cli.specs.Words.{usual_steps, command}
+use Rattle.elpi_cli.specs.Samples.{sample_files, sample_query}
 use Rattle.elpi_cli.specs.Output.{Output, line, line_only, searched}
 use Rattle.lp_resolve.specs.StaticRules.{Breach, first_breach}
 use Rattle.elpi_cli.specs.Resolved.{resolved_program, searched_program, searched_query}
@@ -50,15 +51,33 @@ abbrev pub files_output : (steps answers : ℕ) → List ℕ → Result (List Fi
 files_output steps answers query (Err refusal) = refusal
 files_output steps answers query (Ok files) = texts_output steps answers query files (items_read 0 files)
 
+-- what a command asks for: a query over files, or the refusal of a file, in at most so many steps, up to so many answers
+pub record Task : Type 0 where
+  pub steps : ℕ
+  pub answers : ℕ
+  pub query : List ℕ
+  pub files : Result (List FileEntry) Output
+
+-- the task of a command
+abbrev pub task_of : List (List ℕ) → List FileEntry → Command → Task
+task_of words told (Run steps answers query files) =
+    record { steps = steps; answers = answers; query = word_at words query; files = files_read told (map (word_at words) files) }
+task_of words told (Gen size) = record { steps = usual_steps; answers = 1; query = sample_query; files = Ok (sample_files size) }
+
 -- the names of a command's files
 abbrev pub file_names : List (List ℕ) → Result Command ℕ → List (List ℕ)
 file_names words (Err index) = []
 file_names words (Ok (Run steps answers query files)) = map (word_at words) files
+file_names words (Ok (Gen size)) = []
+
+-- the run of a task
+abbrev pub task_output : Task → Output
+task_output task = files_output task.steps task.answers task.query task.files
 
 -- the run of a command, or the refusal of the words
 abbrev pub command_output : List (List ℕ) → List FileEntry → Result Command ℕ → Output
 command_output words told (Err index) = line_only (codes "words: bad word at " ++ line (decimal index)) Words
-command_output words told (Ok (Run steps answers query files)) = files_output steps answers (word_at words query) (files_read told (map (word_at words) files))
+command_output words told (Ok found) = task_output (task_of words told found)
 
 -- The output of the words over these files: the words, then the files in word order, then their texts by tokens and
 -- grammar, then the static rules over all of them, then the query's tokens and grammar, then whether the files are

@@ -1,12 +1,13 @@
-// From resolved programs and queries to the machine, or the refusal of a file that isn't built.
+// From a checked program and a goal to the machine, or the refusal of a file that isn't built.
 ghost use Rattle.std.specs.Prelude.{◌≡◌, IfOk};
 ghost use Rattle.std.specs.String.{string_bytes};
 ghost use Rattle.lp_resolve.specs.Queries.{IsFormedQuery};
 ghost use Rattle.elpi_cli.specs.Resolved.{program_table, resolved_program};
 ghost use Rattle.elpi_cli.specs.Built.{not_yet_line};
-ghost use Rattle.elpi_cli.specs.Begins.{IsRefusal, IsEngineFor, BuildsEngine};
+ghost use Rattle.elpi_cli.specs.Begins.{IsRefusal, IsEngineFor, IsEngineOf, name_at};
+ghost use Rattle.elpi_cli.specs.inside.Sources.{entries_of};
 
-use crate::forms::are_built;
+use crate::sources::Source;
 use crate::texts::TextStop;
 use goal_run::Machine;
 use lp_parser::{Ast, AstGoal};
@@ -20,8 +21,18 @@ pub struct Engine {
     pub symbols: Symbols,
 }
 
+/// The refusal of the file with a number, which isn't built.
+pub fn not_yet(alloc: Global, sources: &[Source], number: usize) -> TextStop
+    ensures { IsRefusal (not_yet_line (name_at (entries_of sources.now) number)) result }
+{
+    match sources.get(number) {
+        Some(source) => refuse_unbuilt(alloc, source.name.as_str()),
+        None => refuse_unbuilt(alloc, ""),
+    }
+}
+
 // The refusal of a file that isn't built.
-fn not_yet(alloc: Global, name: &str) -> TextStop
+fn refuse_unbuilt(alloc: Global, name: &str) -> TextStop
     ensures { IsRefusal (not_yet_line name.now) result }
 {
     match not_yet_text(alloc, name) {
@@ -50,22 +61,18 @@ fn start_engine(
     Ok(Engine { machine, symbols })
 }
 
-/// The engine for a goal over the items of the file of this name, or the refusal of the file, where it isn't built.
+/// The engine for a goal over the items of a program.
 pub fn build_engine(
     alloc: Global,
-    name: &str,
     ast: &Ast,
     checked: &Checked,
     goal: &AstGoal,
     mut symbols: Symbols,
-) -> Result<Engine, TextStop>
+) -> Result<Engine, AllocError>
     requires table { symbols ≡ program_table ast.now }
     requires program { checked.now ≡ resolved_program ast.now }
-    ensures { BuildsEngine name.now ast.now goal.now.term result }
+    ensures { IfOk result (IsEngineOf ast.now goal.now.term) }
 {
-    if !are_built(ast.as_slice()) {
-        return Err(not_yet(alloc, name));
-    }
     let query = resolve_query(alloc, goal, &mut symbols)?;
     let engine = start_engine(alloc, checked, &query, symbols)?;
     Ok(engine)

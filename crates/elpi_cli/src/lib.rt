@@ -1,4 +1,4 @@
-//! All that the program does: `run` reads the words of a command, runs a query over a file, and writes its answers, over
+//! All that the program does: `run` reads the words of a command, runs a query over files, and writes its answers, over
 //! any files and any sink.
 #![tactic(auto)]
 
@@ -6,6 +6,7 @@ mod built;
 mod forms;
 mod positions;
 mod search;
+mod sources;
 mod static_rules;
 mod status;
 mod texts;

@@ -1,9 +1,11 @@
-// The program of a file's items, or the refusal of the file by a static rule.
-ghost use Rattle.std.specs.Prelude.{◌≡◌, ◌∷◌, []};
+// The program of the files' items, or the refusal of a file by a static rule.
+ghost use Rattle.std.specs.Prelude.{◌≡◌};
 ghost use Rattle.lp_resolve.specs.Symbols.{reserved_names};
-ghost use Rattle.elpi_cli.specs.Static.{static_name, file_entry, breach_at, breach_line};
+ghost use Rattle.elpi_cli.specs.Static.{static_name, breach_at, breach_line};
 ghost use Rattle.elpi_cli.specs.Begins.{IsRefusal, ChecksProgram};
+ghost use Rattle.elpi_cli.specs.inside.Sources.{entries_of};
 
+use crate::sources::Source;
 use crate::texts::{TextStop, refuse};
 use lp_parser::{Ast, Place};
 use lp_resolve::{Checked, StaticRule, Symbols, resolve_program};
@@ -26,35 +28,37 @@ fn static_name(rule: StaticRule) -> &'static str
     }
 }
 
-// The refusal of the one file by a static rule at a place.
-fn refuse_rule(alloc: Global, name: &str, text: &[u8], rule: StaticRule, place: Place) -> TextStop
-    ensures { IsRefusal (breach_line (file_entry name.now text.now ∷ []) (breach_at rule place)) result }
+// The refusal of a file by a static rule at a place.
+fn refuse_rule(alloc: Global, sources: &[Source], rule: StaticRule, place: Place) -> TextStop
+    ensures { IsRefusal (breach_line (entries_of sources.now) (breach_at rule place)) result }
 {
-    if place.file == 0 {
-        refuse(alloc, name, text, place.at, static_name(rule))
-    } else {
-        refuse(alloc, "", &[], place.at, static_name(rule))
+    match sources.get(place.file as usize) {
+        Some(source) => refuse(
+            alloc,
+            source.name.as_str(),
+            source.text.as_slice(),
+            place.at,
+            static_name(rule),
+        ),
+        None => refuse(alloc, "", &[], place.at, static_name(rule)),
     }
 }
 
-/// The program of the items of the file of this name, whose texts go into the table, or the refusal of the file by the
-/// first static rule that the program breaks.
+/// The program of the items of all files, whose texts go into the table, or the refusal of a file by the first static rule
+/// that the program breaks.
 pub fn check_program(
     alloc: Global,
-    name: &str,
-    text: &[u8],
+    sources: &[Source],
     ast: &Ast,
     symbols: &mut Symbols,
 ) -> Result<Checked, TextStop>
     requires { symbols.old ≡ reserved_names }
-    ensures { ChecksProgram (file_entry name.now text.now ∷ []) ast.now symbols.new result }
+    ensures { ChecksProgram (entries_of sources.now) ast.now symbols.new result }
 {
     match resolve_program(alloc, ast, symbols) {
         Err(_) => Err(TextStop::Memory),
         Ok(program) => match check(alloc, program) {
-            Err(StaticError::Broken(rule, place)) => {
-                Err(refuse_rule(alloc, name, text, rule, place))
-            }
+            Err(StaticError::Broken(rule, place)) => Err(refuse_rule(alloc, sources, rule, place)),
             Err(StaticError::Memory) => Err(TextStop::Memory),
             Ok(checked) => Ok(checked),
         },

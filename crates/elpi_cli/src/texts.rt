@@ -1,12 +1,16 @@
 // From the bytes of texts to their trees, or the lines that refuse them.
-ghost use Rattle.std.specs.Prelude.{◌≡◌, IfOk};
+ghost use Rattle.std.specs.Prelude.{◌≡◌, ◌≤◌, length, IfOk};
 ghost use Rattle.std.specs.String.{string_bytes};
+ghost use Rattle.elpi_cli.specs.Words.{most_files};
 ghost use Rattle.elpi_cli.specs.Texts.{items_of, goal_of, refused_line, token_line, grammar_name, byte_of, grammar_line};
-ghost use Rattle.elpi_cli.specs.Begins.{IsReading, IsReadGoal, IsRefusal, IsGrammarStop};
+ghost use Rattle.elpi_cli.specs.Begins.{IsReading, IsReadGoal, IsRefusal, IsGrammarStop, or_unbuilt, ReadsProgram};
+ghost use Rattle.elpi_cli.specs.inside.Sources.{entries_of};
 
+use crate::forms::are_built;
 use crate::positions::{column_at, line_at};
+use crate::sources::Source;
 use lp_lexer::{LexError, Tokens, tokens};
-use lp_parser::{Ast, AstGoal, GrammarRule, ParseError, parse_program, parse_query};
+use lp_parser::{Ast, AstGoal, GrammarRule, Item, ParseError, parse_program, parse_query};
 use std::alloc::{AllocError, Global};
 
 /// Why a text isn't run: the line that refuses it, or want of memory.
@@ -14,6 +18,13 @@ use std::alloc::{AllocError, Global};
 pub enum TextStop {
     Refused(String),
     Memory,
+}
+
+/// The items of all files in their order, and the number of the first file that isn't built.
+#[derive(Drop)]
+pub struct ProgramText {
+    pub ast: Ast,
+    pub unbuilt: Option<usize>,
 }
 
 impl From<AllocError> for TextStop {
@@ -129,17 +140,49 @@ fn grammar_stop(
     }
 }
 
-// The items of a text, or the refusal of the text by its tokens or the grammar.
-pub fn read_items(alloc: Global, name: &str, text: &[u8]) -> Result<Ast, TextStop>
-    ensures { IsReading (items_of name.now 0 text.now) result }
+// The items of the file with this number, or the refusal of its text by its tokens or the grammar.
+fn read_items(alloc: Global, name: &str, file: u32, text: &[u8]) -> Result<Ast, TextStop>
+    ensures { IsReading (items_of name.now file text.now) result }
 {
     match tokens(alloc, text) {
         Err(error) => Err(token_stop(alloc, name, text, error)),
-        Ok(tokens) => match parse_program(alloc, &tokens, 0) {
+        Ok(tokens) => match parse_program(alloc, &tokens, file) {
             Err(error) => Err(grammar_stop(alloc, name, text, &tokens, error)),
             Ok(ast) => Ok(ast),
         },
     }
+}
+
+// The first file that isn't built, after one more with this number and these items.
+fn or_unbuilt(unbuilt: Option<usize>, number: usize, items: &[Item]) -> Option<usize>
+    ensures { result ≡ or_unbuilt unbuilt number items.now }
+{
+    match unbuilt {
+        Some(first) => Some(first),
+        None => { if are_built(items) { None } else { Some(number) } }
+    }
+}
+
+/// The items of the files, each numbered by its place among them, or the refusal of the first text that its tokens or the
+/// grammar refuse.
+pub fn read_program(alloc: Global, sources: &[Source]) -> Result<ProgramText, TextStop>
+    requires { length sources.now ≤ most_files }
+    ensures { ReadsProgram (entries_of sources.now) result }
+{
+    let mut ast = Ast::new(alloc);
+    let mut unbuilt = None;
+    for number in 0..sources.len() {
+        let source = &sources[number];
+        let text = source.text.as_slice();
+        match read_items(alloc, source.name.as_str(), number as u32, text) {
+            Err(stop) => return Err(stop),
+            Ok(items) => {
+                unbuilt = or_unbuilt(unbuilt, number, items.as_slice());
+                ast.append(items)?;
+            }
+        }
+    }
+    Ok(ProgramText { ast, unbuilt })
 }
 
 // The goal of a query's text, or the refusal of the text by its tokens or the grammar.

@@ -1,35 +1,32 @@
 // The top call.
-ghost use Rattle.std.specs.Prelude.{◌≡◌, ℕ, ◌≢◌, ◌∷◌, ◌++◌, ◌<◌, [], List, IfSome, IfOk, IsOkAnd, IsErr, IsSome, Some, Ok, length, slice_index_or, codes};
-ghost use Rattle.std.specs.String.{string_bytes};
+ghost use Rattle.std.specs.Prelude.{◌≡◌, ℕ, ◌≢◌, ◌<◌, ◌≤◌, List, IfSome, IfOk, IsOkAnd, IsErr, IsSome, Some, Ok, length};
 ghost use Rattle.lam_io.specs.Faults.{Rose, HasCause};
-ghost use Rattle.lam_io.specs.Reads.{bytes_of};
 ghost use Rattle.lam_io.specs.Writes.{Appended};
-ghost use Rattle.elpi_cli.specs.Words.{texts, command as command_of, IsWithin};
+ghost use Rattle.elpi_cli.specs.Words.{texts, command as command_of, usual_steps, most_files, AllBelow, IsWithin};
+ghost use Rattle.elpi_cli.specs.Samples.{sample_files, sample_query};
 ghost use Rattle.elpi_cli.specs.Written.{IsStop, Emits};
-ghost use Rattle.elpi_cli.specs.Texts.{with_file, with_items, items_of};
-ghost use Rattle.elpi_cli.specs.Static.{file_entry};
+ghost use Rattle.elpi_cli.specs.Texts.{FileItems};
 ghost use Rattle.elpi_cli.specs.Output.{Output, line_only};
-ghost use Rattle.elpi_cli.specs.Begins.{IsRefusal, BeginsRun};
-ghost use Rattle.elpi_cli.specs.Top.{output, files_output, texts_output, word_at, known_files, IsRunOf, IsStatusOf};
+ghost use Rattle.elpi_cli.specs.Begins.{IsRefusal, IsProgramText, BeginsRun};
+ghost use Rattle.elpi_cli.specs.Top.{output, files_output, known_files, IsRunOf, IsStatusOf};
 ghost use Rattle.elpi_cli.specs.Causes.{ComesBy, ComesExactlyBy, IsComplete, IsDone, IsNoAnswer, IsBadWord, IsRefused, IsFault, IsOutOfSteps, IsMissing, IsTooLong};
-ghost use Rattle.elpi_cli.specs.inside.Prepared.{Prepares, Loads, IsOutputOf, HasSomeOutput, status_of, IsFileStatus, IsTextStatus};
+ghost use Rattle.elpi_cli.specs.inside.Prepared.{Prepares, IsOutputOf, HasSomeOutput, IsLineOf, status_of, IsFileStatus, IsTextStatus};
+ghost use Rattle.elpi_cli.specs.inside.Sources.{entries_of};
 
-use crate::built::{Engine, build_engine};
+use crate::built::{Engine, build_engine, not_yet};
 use crate::search::{answer_query, close};
+use crate::sources::{FileStop, Source, read_sources, sample_sources, word_of};
 use crate::static_rules::check_program;
 use crate::status::Status;
-use crate::texts::{TextStop, read_goal, read_items};
-use crate::words::{Command, WordsStop, read_words};
+use crate::texts::{ProgramText, TextStop, read_goal, read_program};
+use crate::words::{Command, STEPS, WordsStop, read_words};
 use goal_run::Machine;
-use lam_io::{FileFail, Files, Sink};
-use lp_parser::Ast;
+use lam_io::{Files, Sink};
 use lp_resolve::Symbols;
 use std::alloc::{AllocError, Global};
 
-const FILE_LIMIT: usize = 4_194_304;
-
-/// Does all that the program does, with these words: reads the files, runs the query over them, and writes each answer
-/// and the last line, each as one piece. It stands on what `files` and `sink` tell.
+/// Does all that the program does, with these words: reads the files in the order of the words, runs the query over all of
+/// them together, and writes each answer and the last line, each as one piece. It stands on what `files` and `sink` tell.
 pub fn run<F: Files, K: Sink>(
     alloc: Global,
     words: &[String],
@@ -127,7 +124,7 @@ fn prepare<F: Files>(alloc: Global, words: &[String], files: &mut F) -> Result<P
     }
 }
 
-// Reads the files of a command.
+// Reads the files of a command, and their texts.
 fn load_command<F: Files>(
     alloc: Global,
     words: &[String],
@@ -147,123 +144,119 @@ fn load_command<F: Files>(
             answers,
             query,
             files: indices,
-        } => load_named(
+        } => load_files(
             alloc,
             words,
-            steps,
-            answers,
+            Limits { steps, answers },
             query,
-            indices.as_slice()[0],
+            indices.as_slice(),
             files,
         ),
+        Command::Gen(size) => load_sample(alloc, size),
     }
 }
 
-// Reads the file that the word with an index names; another word is the query.
-fn load_named<F: Files>(
+/// The limits of a run: how many steps it may make, and how many answers it may write, where 0 leaves that out.
+#[derive(Clone, Copy)]
+pub struct Limits {
+    pub steps: u64,
+    pub answers: u64,
+}
+
+// Reads the files that the words with these indices name, and their texts; another word is the query.
+fn load_files<F: Files>(
     alloc: Global,
     words: &[String],
-    steps: u64,
-    answers: u64,
+    limits: Limits,
     query: usize,
-    file: usize,
+    indices: &[usize],
     files: &mut F,
 ) -> Result<Prepared, AllocError>
     requires query { query < length words.now }
-    requires file { file < length words.now }
+    requires files { AllBelow (length words.now) indices.now }
+    requires few { length indices.now ≤ most_files }
     ensures told { F.told files.new ≡ F.told files.old }
-    ensures prepared { command_of (texts words.now) ≡ Ok (Command.Run steps answers query (file ∷ []))
+    ensures prepared { command_of (texts words.now) ≡ Ok (Command.Run limits.steps limits.answers query indices.now)
         → IfOk result (λ prepared. IfSome (known_files (texts words.now) (F.told files.old)) (λ told. Prepares (texts words.now) told prepared)) }
     ensures output { IfOk result HasSomeOutput }
     ensures cause { HasCause (F.faults files.old) (F.faults files.new) (IsOkAnd result (λ prepared. status_of prepared ≡ Some Status.ReadFault)) }
     ensures status { IfOk result (λ prepared. IsFileStatus (status_of prepared)) }
 {
-    load(
-        alloc,
-        words[file].as_str(),
-        words[query].as_str(),
-        steps,
-        answers,
-        files,
-    )
-}
-
-// Reads the file and begins the search.
-fn load<F: Files>(
-    alloc: Global,
-    name: &str,
-    query: &str,
-    steps: u64,
-    answers: u64,
-    files: &mut F,
-) -> Result<Prepared, AllocError>
-    ensures told { F.told files.new ≡ F.told files.old }
-    ensures prepared { IfOk result (λ prepared. IfSome (F.told files.old) (λ told.
-        Loads name.now (bytes_of told name.now) (files_output steps answers query.now (with_file name.now (bytes_of told name.now) (Ok []))) prepared)) }
-    ensures output { IfOk result HasSomeOutput }
-    ensures cause { HasCause (F.faults files.old) (F.faults files.new) (IsOkAnd result (λ prepared. status_of prepared ≡ Some Status.ReadFault)) }
-    ensures status { IfOk result (λ prepared. IsFileStatus (status_of prepared)) }
-{
-    match files.read_file(name, FILE_LIMIT) {
-        Err(FileFail::Memory) => Err(AllocError),
-        Err(FileFail::Missing) => Ok(Prepared::Line(
-            format!(in alloc; "missing: {name}\n")?,
-            Status::Missing,
-        )),
-        Err(FileFail::TooLong) => Ok(Prepared::Line(
-            format!(in alloc; "too long: {name}\n")?,
-            Status::TooLong,
-        )),
-        Err(FileFail::Failed) => Ok(Prepared::Line(
-            format!(in alloc; "read fault: {name}\n")?,
-            Status::ReadFault,
-        )),
-        Ok(text) => begin(alloc, name, query, steps, answers, text.as_slice()),
+    match read_sources(alloc, words, indices, files) {
+        Err(stop) => unread(stop),
+        Ok(sources) => begin(alloc, sources.as_slice(), word_of(words, query), limits),
     }
 }
 
-// Reads the texts of the file and of the query, and begins the search.
-fn begin(
-    alloc: Global,
-    name: &str,
-    query: &str,
-    steps: u64,
-    answers: u64,
-    text: &[u8],
-) -> Result<Prepared, AllocError>
-    ensures prepared { IfOk result (IsOutputOf (texts_output steps answers query.now (file_entry name.now text.now ∷ []) (with_items name.now (items_of name.now 0 text.now) (Ok [])))) }
+// Makes the program of this size that comes with the interpreter, and reads its text.
+fn load_sample(alloc: Global, size: u32) -> Result<Prepared, AllocError>
+    ensures prepared { IfOk result (IsOutputOf (files_output usual_steps 1 sample_query (Ok (sample_files size)))) }
     ensures status { IfOk result (λ prepared. IsTextStatus (status_of prepared)) }
 {
-    match read_items(alloc, name, text) {
+    let sources = sample_sources(alloc, size)?;
+    let limits = Limits {
+        steps: STEPS,
+        answers: 1,
+    };
+    begin(alloc, sources.as_slice(), "main T", limits)
+}
+
+// The line of a file that isn't read.
+fn unread(stop: FileStop) -> Result<Prepared, AllocError>
+    ensures { IfOk result (IsLineOf stop) }
+{
+    match stop {
+        FileStop::Unread(line, status) => Ok(Prepared::Line(line, status)),
+        FileStop::Memory => Err(AllocError),
+    }
+}
+
+// Reads the texts of the files and of the query, and begins the search.
+fn begin(
+    alloc: Global,
+    sources: &[Source],
+    query: &str,
+    limits: Limits,
+) -> Result<Prepared, AllocError>
+    requires { length sources.now ≤ most_files }
+    ensures prepared { IfOk result (IsOutputOf (files_output limits.steps limits.answers query.now (Ok (entries_of sources.now)))) }
+    ensures status { IfOk result (λ prepared. IsTextStatus (status_of prepared)) }
+{
+    match read_program(alloc, sources) {
         Err(stop) => refused(stop),
-        Ok(ast) => match engine_for(alloc, name, query, text, &ast) {
+        Ok(program) => match engine_for(alloc, sources, query, &program) {
             Err(stop) => refused(stop),
             Ok(engine) => Ok(Prepared::Search(Job {
                 machine: engine.machine,
                 symbols: engine.symbols,
-                steps,
-                answers,
+                steps: limits.steps,
+                answers: limits.answers,
             })),
         },
     }
 }
 
-// Checks the program of the file's items, reads the query, and makes the engine for both.
+// Checks the program of the files' items, reads the query, and makes the engine for both.
 fn engine_for(
     alloc: Global,
-    name: &str,
+    sources: &[Source],
     query: &str,
-    text: &[u8],
-    ast: &Ast,
+    program: &ProgramText,
 ) -> Result<Engine, TextStop>
-    ensures { BeginsRun (file_entry name.now text.now) ast.now query.now result }
+    ensures { (items : List FileItems) → IsProgramText (entries_of sources.now) items program.now.ast program.now.unbuilt → BeginsRun (entries_of sources.now) items query.now result }
 {
     let mut symbols = Symbols::new(alloc)?;
-    match check_program(alloc, name, text, ast, &mut symbols) {
+    match check_program(alloc, sources, &program.ast, &mut symbols) {
         Err(stop) => Err(stop),
         Ok(checked) => match read_goal(alloc, query.as_bytes()) {
             Err(stop) => Err(stop),
-            Ok(goal) => build_engine(alloc, name, ast, &checked, &goal, symbols),
+            Ok(goal) => match program.unbuilt {
+                Some(number) => Err(not_yet(alloc, sources, number)),
+                None => match build_engine(alloc, &program.ast, &checked, &goal, symbols) {
+                    Err(_) => Err(TextStop::Memory),
+                    Ok(engine) => Ok(engine),
+                },
+            },
         },
     }
 }

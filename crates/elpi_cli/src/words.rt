@@ -1,33 +1,41 @@
 // The words of the command line.
-ghost use Rattle.std.specs.Prelude.{◌≡◌, ◌<◌, length, None, Some, IfOk, ℕ, if◌then◌else◌};
+ghost use Rattle.std.specs.Prelude.{◌≡◌, ◌<◌, ◌≤◌, length, None, Some, IfOk, IfSome, ℕ, if◌then◌else◌};
 ghost use Rattle.std.specs.Str.Parse.{digits_value};
-ghost use Rattle.elpi_cli.specs.Words.{texts, command, take_word, take_option_or_file, asks_for, is_number, number_within, IsCommand, AreBelow, IsWithin};
+ghost use Rattle.elpi_cli.specs.Words.{texts, command, most_size, take_word, take_first, take_option_or_file, asks_for, is_number, number_within, IsCommand, AreBelow, IsWithin};
 
 use ref_terms::Sequence;
 use std::alloc::{AllocError, AllocFailed, Global};
 
-const MAX_FILES: usize = 1;
+// How many files may be named.
+const MAX_FILES: usize = 16;
 
 // How many digits a number has at most.
 const MAX_DIGITS: usize = 10;
 
-// The number of steps where none is given, and the most that can be.
-const STEPS: u64 = 1_000_000;
+/// How many steps a run may make where no number is given.
+pub const STEPS: u64 = 1_000_000;
 
+// The greatest number of steps.
 const MAX_STEPS: u64 = 1_000_000_000;
 
 // The greatest limit on answers.
 const MAX_ANSWERS: u64 = 1_000_000;
 
+// The greatest size of the program that comes with the interpreter.
+const MAX_SIZE: u64 = 100_000;
+
 /// What a command line asks for. Query and files are indices into the words.
 #[derive(Debug, Drop)]
 pub enum Command {
+    /// A query over files, in at most so many steps, up to so many answers; 0 leaves the limit out.
     Run {
         steps: u64,
         answers: u64,
         query: usize,
         files: Sequence<usize>,
     },
+    /// The program that comes with the interpreter, of this size.
+    Gen(u32),
 }
 
 /// Why words give no command.
@@ -56,6 +64,8 @@ pub enum Place {
     QueryValue,
     StepsValue,
     AnswersValue,
+    GenSize,
+    End,
 }
 
 /// What the words so far have said.
@@ -66,6 +76,7 @@ pub struct Reading {
     pub steps: Option<u64>,
     pub answers: Option<u64>,
     pub files: Sequence<usize>,
+    pub size: Option<u32>,
 }
 
 // The value of a number of one to ten digits; none where the word is none.
@@ -88,11 +99,22 @@ fn number_of(word: &[u8]) -> Option<u64>
 
 // The number that the word is, from `least` to `most`.
 fn number_within(least: u64, most: u64, word: &[u8]) -> Option<u64>
-    ensures { result ≡ number_within least most word.now }
+    ensures value { result ≡ number_within least most word.now }
+    ensures bounded { IfSome result (λ number. number ≤ most) }
 {
     match number_of(word) {
         Some(number) if least <= number && number <= most => Some(number),
         _ => None,
+    }
+}
+
+// The size that the word is.
+fn size_of(word: &[u8]) -> Option<u32>
+    ensures { result ≡ number_within 0 most_size word.now }
+{
+    match number_within(0, MAX_SIZE, word) {
+        Some(number) => Some(number as u32),
+        None => None,
     }
 }
 
@@ -105,12 +127,7 @@ impl Reading {
         ensures below { (count : ℕ) → index < count → AreBelow count self.old → AreBelow count self.new }
     {
         match self.place {
-            Place::First => {
-                if word != b"run".as_slice() {
-                    return Ok(false);
-                }
-                self.place = Place::OptionOrFile;
-            }
+            Place::First => return Ok(self.take_first(word)),
             Place::QueryValue => {
                 self.query = Some(index);
                 self.place = Place::OptionOrFile;
@@ -129,9 +146,33 @@ impl Reading {
                 self.answers = Some(answers);
                 self.place = Place::OptionOrFile;
             }
+            Place::GenSize => {
+                let Some(size) = size_of(word) else {
+                    return Ok(false);
+                };
+                self.size = Some(size);
+                self.place = Place::End;
+            }
+            Place::End => return Ok(false),
             Place::OptionOrFile => return self.take_option_or_file(index, word),
         }
         Ok(true)
+    }
+
+    // The same where the command's name stands.
+    fn take_first(&mut self, word: &[u8]) -> bool
+        ensures taken { take_first self.old word.now ≡ (if result then Some self.new else None) }
+        ensures below { (count : ℕ) → AreBelow count self.old → AreBelow count self.new }
+    {
+        if word == b"run".as_slice() {
+            self.place = Place::OptionOrFile;
+            return true;
+        }
+        if word == b"gen".as_slice() {
+            self.place = Place::GenSize;
+            return true;
+        }
+        false
     }
 
     // The same where an option or a file name stands.
@@ -182,19 +223,27 @@ pub fn read_words(alloc: Global, words: &[String]) -> Result<Command, WordsStop>
         steps: None,
         answers: None,
         files: Sequence::new(alloc),
+        size: None,
     };
     for (index, word) in words.iter().enumerate() {
         if !reading.take(index, word.as_bytes())? {
             return Err(WordsStop::BadWord(index));
         }
     }
-    match (reading.place, reading.query) {
-        (Place::OptionOrFile, Some(query)) if reading.files.len() == 1 => Ok(Command::Run {
-            steps: reading.steps.unwrap_or(STEPS),
-            answers: reading.answers.unwrap_or(0),
-            query,
-            files: reading.files,
-        }),
+    match reading.place {
+        Place::OptionOrFile => match reading.query {
+            Some(query) => Ok(Command::Run {
+                steps: reading.steps.unwrap_or(STEPS),
+                answers: reading.answers.unwrap_or(0),
+                query,
+                files: reading.files,
+            }),
+            None => Err(WordsStop::BadWord(words.len())),
+        },
+        Place::End => match reading.size {
+            Some(size) => Ok(Command::Gen(size)),
+            None => Err(WordsStop::BadWord(words.len())),
+        },
         _ => Err(WordsStop::BadWord(words.len())),
     }
 }

@@ -1,5 +1,5 @@
-//! Whole runs over files and a sink in memory: the worked rows, a line each, the words and options, failing reads and
-//! writes, and the limits.
+//! Whole runs over files and a sink in memory: the worked rows, a line each, the words and options, several files, failing
+//! reads and writes, and the limits.
 //!
 //! The crate has tests alone. Expected values are by hand.
 #![tactic(auto)]
@@ -16,3 +16,5 @@ mod options;
 mod rows;
 #[cfg(test)]
 mod runs;
+#[cfg(test)]
+mod several;

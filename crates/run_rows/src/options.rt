@@ -9,16 +9,13 @@ walk ⇒ 0
 run ⇒ 1
 run¦a ⇒ 2
 run¦--query ⇒ 2
-run¦--query¦p ⇒ 3
 run¦--query¦p¦--query¦q¦a ⇒ 3
-run¦a¦b¦--query¦p ⇒ 2
 run¦--query¦--query¦a¦--query¦p ⇒ 4
 run¦--step¦5¦--query¦p¦a ⇒ 1
 run¦--query¦p¦a¦--path ⇒ 4
 run¦--steps ⇒ 2
 run¦--steps¦5 ⇒ 3
 run¦a¦--answers¦5¦--query ⇒ 5
-run¦--steps¦1¦--answers¦0¦--query¦p ⇒ 7
 run¦--steps¦0¦--query¦true ⇒ 2
 run¦--steps¦1000000001¦--query¦p¦a ⇒ 2
 run¦--steps¦00000000001¦--query¦p¦a ⇒ 2
@@ -28,7 +25,18 @@ run¦--steps¦-5¦--query¦p¦a ⇒ 2
 run¦--query¦p¦--answers¦1000001¦a ⇒ 4
 run¦--query¦p¦--answers¦10000000000¦a ⇒ 4
 run¦--steps¦5¦--steps¦5¦--query¦p¦a ⇒ 3
-run¦--answers¦1¦--query¦p¦--answers¦1¦a ⇒ 5";
+run¦--answers¦1¦--query¦p¦--answers¦1¦a ⇒ 5
+run¦--query¦p¦1¦2¦3¦4¦5¦6¦7¦8¦9¦10¦11¦12¦13¦14¦15¦16¦17 ⇒ 19
+gen ⇒ 1
+gen¦ ⇒ 1
+gen¦ten ⇒ 1
+gen¦-1 ⇒ 1
+gen¦100001 ⇒ 1
+gen¦00000000001 ⇒ 1
+gen¦--query¦p ⇒ 1
+gen¦20¦a ⇒ 2
+check¦a ⇒ 0
+certify¦a ⇒ 0";
 
 #[test]
 fn bad_words_are_named(rt: HostRuntime) -> Result<(), Fail> {

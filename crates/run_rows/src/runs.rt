@@ -15,6 +15,21 @@ fn words_of(alloc: Global, line: &str) -> Result<Vec<String>, Fail> {
     Ok(words)
 }
 
+/// The files of a line: a name, a colon and a text for each, of which a bar stands between two.
+fn files_of(alloc: Global, line: &str) -> Result<FileList, Fail> {
+    let mut files = FileList::new(alloc);
+    if !line.is_empty() {
+        for file in line.split('¦') {
+            let (name, text) = file.split_once(':').ok_or("no name")?;
+            files.push(FileEntry {
+                name: ByteText::from_slice(alloc, name.trim().as_bytes())?,
+                bytes: ByteText::from_slice(alloc, text.trim().as_bytes())?,
+            })?;
+        }
+    }
+    Ok(files)
+}
+
 /// The file `a`, where there is one.
 fn one_file(alloc: Global, bytes: Option<ByteText>) -> Result<FileList, Fail> {
     let mut files = FileList::new(alloc);
@@ -56,10 +71,22 @@ pub(crate) fn run_with(
     read: u64,
     write: (u64, usize),
 ) -> Result<String, Fail> {
+    let files = one_file(alloc, file)?;
+    run_over(alloc, line, files, read, write)
+}
+
+/// The same over these files.
+fn run_over(
+    alloc: Global,
+    line: &str,
+    files: FileList,
+    read: u64,
+    write: (u64, usize),
+) -> Result<String, Fail> {
     let words = words_of(alloc, line)?;
     let mut failing = Numbers::new(alloc);
     failing.push(read)?;
-    let mut files = MemFiles::new(alloc, one_file(alloc, file)?, failing);
+    let mut files = MemFiles::new(alloc, files, failing);
     let mut failing = FailList::new(alloc);
     let (call, kept) = write;
     failing.push(FailEntry { call, kept })?;
@@ -88,4 +115,19 @@ pub(crate) fn expect_run(
     let text = ByteText::from_slice(alloc, program.as_bytes())?;
     let found = run_with(alloc, line.as_str(), Some(text), 0, (0, 0))?;
     expect_same(program, found.as_str(), wanted)
+}
+
+/// Fails where these words over the files of a line don't write what is wanted, with their status, when the read and the
+/// write with these numbers fail.
+pub(crate) fn expect_over(
+    alloc: Global,
+    files: &str,
+    words: &str,
+    read: u64,
+    write: (u64, usize),
+    wanted: &str,
+) -> Result<(), Fail> {
+    let files = files_of(alloc, files)?;
+    let found = run_over(alloc, words, files, read, write)?;
+    expect_same(words, found.as_str(), wanted)
 }

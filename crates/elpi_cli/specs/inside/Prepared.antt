@@ -1,15 +1,17 @@
 -- What reading the words and the files prepares, against the output of the run.
-use Rattle.std.specs.Prelude.{◌≡◌, ℕ, List, ⊤, None, Some, IsSome}
+use Rattle.std.specs.Prelude.{◌≡◌, ℕ, List, ⊤, None, Some}
 use Rattle.std.specs.declared.option.Option.{Option}
 use Rattle.std.specs.String.{string_bytes}
 use Rattle.lam_io.specs.declared.byte_text.FileEntry.{FileEntry}
 use Rattle.elpi_cli.specs.declared.status.Status.{Status}
 use Rattle.elpi_cli.specs.declared.status.Status.TheVariants.{Words, ReadFault, WriteFault, Memory, Refused}
+use Rattle.elpi_cli.specs.declared.sources.FileStop.{FileStop}
+use Rattle.elpi_cli.specs.declared.sources.FileStop.TheVariants as unread
 use Rattle.elpi_cli.specs.declared.top.Prepared.{Prepared}
 use Rattle.elpi_cli.specs.declared.top.Prepared.TheVariants.{Search, Line}
 use Rattle.elpi_cli.specs.Output.{Output, line_only}
 use Rattle.elpi_cli.specs.inside.Searching.{HasOutput}
-use Rattle.elpi_cli.specs.Top.{output, read_line, IsReadFault}
+use Rattle.elpi_cli.specs.Top.{output, IsReadFault}
 
 -- the status of a line
 abbrev pub status_of : Prepared → Option Status
@@ -25,10 +27,10 @@ IsOutputOf whole (Line text status) = whole ≡ line_only (string_bytes text) st
 abbrev pub HasSomeOutput : Prepared → Type 0
 HasSomeOutput prepared = (whole : Output) × IsOutputOf whole prepared
 
--- this output is to be written, or the line of a failed read of a file that is there
-abbrev pub Loads : List ℕ → Option (List ℕ) → Output → Prepared → Type 0
-Loads name bytes whole (Line text ReadFault) = IsSome bytes × (string_bytes text ≡ read_line name)
-Loads name bytes whole prepared = IsOutputOf whole prepared
+-- the line of a file that isn't read is to be written
+abbrev pub IsLineOf : FileStop → Prepared → Type 0
+IsLineOf (unread.Unread line status) prepared = prepared ≡ Line line status
+IsLineOf unread.Memory prepared = ⊥
 
 -- the output of the run is to be written, or the line of a failed read
 abbrev pub Prepares : List (List ℕ) → List FileEntry → Prepared → Type 0

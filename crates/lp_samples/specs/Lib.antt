@@ -1,0 +1,2 @@
+pub mod Elaborator
+pub mod Chain
