@@ -1,3 +1,7 @@
 % A goal that waits for a variable is declared with a list of keys, and never with a lone variable.
 %? declare_constraint (of X T) [X]
-%= refused: query: not yet
+%= answer 1
+%=   X = ?0
+%=   T = ?1
+%=   delayed [] [] ?- of ?0 ?1
+%= no more

@@ -1,8 +1,7 @@
 -- From what the texts are read as to the output of the run.
-use Rattle.std.proofs.Common.{◌≡◌, ℕ, Bool, true, false, ◌&&◌, List, [], ◌∷◌, map, None, Some, Ok, Err, IfOk, IsErr, refl, ap, sym, subst, ◌∙◌}
+use Rattle.std.proofs.Common.{◌≡◌, ℕ, Bool, true, false, List, [], ◌∷◌, map, None, Some, Ok, Err, IfOk, IsErr, refl, ap, sym, subst, ◌∙◌}
 use Rattle.std.proofs.lemmas.List.{append-nil}
 use Rattle.std.specs.Prelude.{if◌then◌else◌, flat_map}
-use Rattle.std.specs.List.{list_all}
 use Rattle.std.specs.String.{string_bytes}
 use Rattle.std.specs.declared.result.Result.{Result}
 use Rattle.lam_io.specs.declared.byte_text.FileEntry.{FileEntry}
@@ -32,35 +31,30 @@ use Rattle.elpi_cli.specs.declared.texts.TextStop.{TextStop}
 use Rattle.elpi_cli.specs.declared.texts.TextStop.TheVariants.{Refused, Memory}
 use Rattle.elpi_cli.specs.Output.{Output, line_only, written, searched}
 use Rattle.elpi_cli.specs.Resolved.{program_table, resolved_program, query_table, resolved_query, searched_program, searched_query}
-use Rattle.elpi_cli.specs.Forms.{is_no_block, is_built_clause, are_built_as, are_built, is_built_query}
+use Rattle.elpi_cli.specs.Forms.{are_built}
 use Rattle.elpi_cli.specs.Texts.{goal_of, with_items}
-use Rattle.elpi_cli.specs.Built.{unbuilt_query, unbuilt_text, not_yet_line}
+use Rattle.elpi_cli.specs.Built.{not_yet_line}
 use Rattle.elpi_cli.specs.Top.{built_output, query_output, checked_output, texts_output}
-use Rattle.elpi_cli.specs.Begins.{IsRefusal, StopsAt, IsBroken, IsUnbuiltOf, FormsAreBuilt, IsEngineFor, BuildsBoth, one, BuildsEngine, BeginsRun}
-
--- the first of two tests that are passed
-first-of : (a b : Bool) → (a && b) ≡ true → a ≡ true
-first-of true b e = refl
-first-of false b e = e
+use Rattle.elpi_cli.specs.Begins.{IsRefusal, StopsAt, IsBroken, IsEngineFor, one, IsEngineOf, IsUnbuilt, BuildsEngine, BeginsRun}
 
 -- items that are no blocks have no rule
-no-rules : (table : List (List ℕ)) (items : List Item) → list_all is_no_block items ≡ true → flat_map (item_rules table) items ≡ []
+no-rules : (table : List (List ℕ)) (items : List Item) → are_built items ≡ true → flat_map (item_rules table) items ≡ []
 no-rules table [] e = refl
 no-rules table (item.Clause c ∷ items) e = no-rules table items e
 no-rules table (item.Decl d ∷ items) e = no-rules table items e
 no-rules table (item.Block b ∷ items) e = absurd (let no = e in cc)
 
--- the search of an engine is that of its program and query
-engine-search : (items : List Item) (goal : AstTerm) (engine : Engine) → IsEngineFor items (resolved_program items) (resolved_query items goal) (query_table items goal) engine → (steps limit : ℕ)
+-- the search of an engine is that of its program and query, where the items are built
+engine-search : (items : List Item) (goal : AstTerm) (engine : Engine) → are_built items ≡ true → IsEngineFor (resolved_program items) (resolved_query items goal) (query_table items goal) engine → (steps limit : ℕ)
     → HasOutput engine.symbols engine.machine steps limit (searched (searched_program items goal) (searched_query items goal) steps limit)
-engine-search items goal engine is steps limit =
+engine-search items goal engine built is steps limit =
     let program = searched_program items goal in
     let shown : State → List Event = λ s. events unify program steps s in
     record {
       program = program;
       runs = is.runs;
       symbols = sym is.symbols;
-      no_rules = ap (map plain_rule) (no-rules (program_table items) items (first-of (list_all is_no_block items) (list_all is_built_clause (resolved_program items).clauses) is.built));
+      no_rules = ap (map plain_rule) (no-rules (program_table items) items built);
       output = sym (ap (λ (t : List (List ℕ)). written t (map plain_variable engine.machine.variables) limit 0 (shown (state_of program engine.machine))) is.symbols
           ∙ ap (λ (vs : List QueryVar). written (query_table items goal) (map plain_variable vs) limit 0 (shown (state_of program engine.machine))) is.variables
           ∙ ap (λ (s : State). written (query_table items goal) (map plain_variable (resolved_query items goal).vars) limit 0 (shown s)) is.begins);
@@ -70,41 +64,28 @@ engine-search items goal engine is steps limit =
 pub resolved-table : (items : List Item) (goal : AstTerm) (before table : List (List ℕ)) → before ≡ program_table items → table ≡ interned_all before (texts_of goal) → table ≡ query_table items goal
 resolved-table items goal before table begins tables = tables ∙ ap (λ (t : List (List ℕ)). interned_all t (texts_of goal)) begins
 
--- the first text that isn't built, of the one file and the query
-one-unbuilt : (name : List ℕ) (items : List Item) (goal : AstTerm)
-    → unbuilt_text (one name items) goal ≡ (if are_built_as items (resolved_program items) then unbuilt_query (is_built_query (resolved_query items goal)) else Some name)
-one-unbuilt name items goal =
-    ap (λ (is : List Item). if are_built items then unbuilt_query (is_built_query (resolved_query is goal)) else Some name) (append-nil items)
-
--- the refusal of the first text that isn't built
-pub unbuilt : (name : List ℕ) (items : List Item) (program : Program) (query : Query) (text : List ℕ) (stop : TextStop) → IsUnbuiltOf name items program query text → IsRefusal (not_yet_line text) stop
-    → FormsAreBuilt {A = Unit {0}} name items program query (Err stop)
-unbuilt name items program query text (Refused last) is refusal = (text, is, refusal)
-unbuilt name items program query text Memory is refusal = tt
-
 -- the query of a goal that was resolved behind a program
 pub resolved-goal : (items : List Item) (goal : AstGoal) (before table : List (List ℕ)) (query : Query) → before ≡ program_table items → table ≡ interned_all before (texts_of goal.term) → query ≡ query_of table goal
     → query ≡ resolved_query items goal.term
 resolved-goal items goal before table query begins tables is =
     is ∙ ap (λ (t : List (List ℕ)). query_of t goal) (tables ∙ ap (λ (t : List (List ℕ)). interned_all t (texts_of goal.term)) begins)
 
--- the engine for the texts, or the refusal of the first that isn't built
-pub builds-engine : (name : List ℕ) (items : List Item) (goal : AstTerm) (program : Program) (query : Query) (table : List (List ℕ)) (r : Result Engine TextStop) → program ≡ resolved_program items → query ≡ resolved_query items goal
-    → table ≡ query_table items goal → BuildsBoth name items program query table r → BuildsEngine name items goal r
-builds-engine name items goal program query table (Ok engine) program_is query_is table_is both =
-    let is : IsEngineFor items (resolved_program items) (resolved_query items goal) (query_table items goal) engine = rw (sym program_is, sym query_is, sym table_is) both in
+-- the refusal of a file that isn't built
+pub unbuilt : (name : List ℕ) (items : List Item) (stop : TextStop) → are_built items ≡ false → IsRefusal (not_yet_line name) stop → IsUnbuilt name items stop
+unbuilt name items (Refused last) is refusal = (is, refusal)
+unbuilt name items Memory is refusal = tt
+
+-- the engine for items that are built
+pub builds-engine : (name : List ℕ) (items : List Item) (goal : AstTerm) (program : Program) (query : Query) (table : List (List ℕ)) (engine : Engine) → are_built items ≡ true → program ≡ resolved_program items → query ≡ resolved_query items goal
+    → table ≡ query_table items goal → IsEngineFor program query table engine → IsEngineOf name items goal engine
+builds-engine name items goal program query table engine built program_is query_is table_is of =
+    let is : IsEngineFor (resolved_program items) (resolved_query items goal) (query_table items goal) engine = rw (sym program_is, sym query_is, sym table_is) of in
     record {
-      built = one-unbuilt name items goal ∙ rw (is.built, is.query_built) refl;
+      built = built;
       output = λ steps limit.
-          subst (λ (is : List Item). HasOutput engine.symbols engine.machine steps limit (searched (searched_program is goal) (searched_query is goal) steps limit)) (sym (append-nil items)) (engine-search items goal engine is steps limit);
+          subst (λ (is : List Item). HasOutput engine.symbols engine.machine steps limit (searched (searched_program is goal) (searched_query is goal) steps limit)) (sym (append-nil items))
+          (engine-search items goal engine built is steps limit);
     }
-builds-engine name items goal program query table (Err (Refused last)) program_is query_is table_is both = (
-  both.0,
-  one-unbuilt name items goal ∙ ap (λ (q : Query). if are_built_as items (resolved_program items) then unbuilt_query (is_built_query q) else Some name) (sym query_is)
-      ∙ ap (λ (p : Program). if are_built_as items p then unbuilt_query (is_built_query query) else Some name) (sym program_is) ∙ both.1,
-  both.2,
-)
-builds-engine name items goal program query table (Err Memory) program_is query_is table_is both = tt
 
 -- the run over the one file, where its program breaks no static rule
 unbroken-output : (steps limit : ℕ) (query : List ℕ) (file : FileEntry) (items : List Item) → first_breach (resolved_program items) ≡ None
@@ -127,16 +108,20 @@ begins-refused file items query goal (Refused last) none same is = λ steps limi
     unbroken-output steps limit query file items none ∙ ap (query_output steps limit (one file.name items)) (same ∙ is)
 begins-refused file items query goal Memory none same is = tt
 
+-- the search of the one file and a goal, or the refusal of the file
+one-output : (steps limit : ℕ) (file : FileEntry) (items : List Item) (query : List ℕ) (goal : AstTerm) (built : Bool) → first_breach (resolved_program items) ≡ None → goal_of query ≡ Ok goal → are_built items ≡ built
+    → texts_output steps limit query (file ∷ []) (Ok (one file.name items)) ≡ built_output steps limit (one file.name items) goal (if built then None else Some file.name)
+one-output steps limit file items query goal built none same is =
+    unbroken-output steps limit query file items none ∙ ap (query_output steps limit (one file.name items)) same
+    ∙ ap (λ (b : Bool). built_output steps limit (one file.name items) goal (if b then None else Some file.name)) is
+
 -- texts that are accepted
 pub begins-built : (file : FileEntry) (items : List Item) (query : List ℕ) (goal : AstTerm) (r : Result Engine TextStop) → first_breach (resolved_program items) ≡ None → goal_of query ≡ Ok goal → BuildsEngine file.name items goal r
     → BeginsRun file items query r
 begins-built file items query goal (Ok engine) none same is = λ steps limit.
-    subst (HasOutput engine.symbols engine.machine steps limit)
-    (sym (unbroken-output steps limit query file items none ∙ ap (query_output steps limit (one file.name items)) same ∙ ap (built_output steps limit (one file.name items) goal) is.built))
-    (is.output steps limit)
+    subst (HasOutput engine.symbols engine.machine steps limit) (sym (one-output steps limit file items query goal true none same is.built)) (is.output steps limit)
 begins-built file items query goal (Err (Refused last)) none same is = λ steps limit.
-    unbroken-output steps limit query file items none ∙ ap (query_output steps limit (one file.name items)) same
-    ∙ ap (built_output steps limit (one file.name items) goal) is.1 ∙ ap (λ (l : List ℕ). line_only l Status.Refused) (sym is.2)
+    one-output steps limit file items query goal false none same is.0 ∙ ap (λ (l : List ℕ). line_only l Status.Refused) (sym is.1)
 begins-built file items query goal (Err Memory) none same is = tt
 
 -- what is prepared has this output

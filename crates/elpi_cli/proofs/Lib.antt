@@ -1,5 +1,4 @@
 pub mod Progress
-pub mod TreeForms
 pub mod Lines
 pub mod SearchEvents
 pub mod Begins

@@ -1,5 +1,5 @@
 -- What reading the texts gives the search.
-use Rattle.std.specs.Prelude.{◌≡◌, ℕ, List, [], ◌∷◌, true, ⊤, None, Some, Ok, Err, codes, if◌then◌else◌}
+use Rattle.std.specs.Prelude.{◌≡◌, ℕ, List, [], ◌∷◌, true, false, ⊤, None, Some, Ok, Err, codes}
 use Rattle.std.specs.String.{string_bytes}
 use Rattle.std.specs.declared.result.Result.{Result}
 use Rattle.lam_io.specs.declared.byte_text.FileEntry.{FileEntry}
@@ -23,9 +23,9 @@ use Rattle.elpi_cli.specs.Output.{line_only, searched}
 use Rattle.elpi_cli.specs.Top.{texts_output}
 use Rattle.elpi_cli.specs.declared.status.Status.TheVariants as Status
 use Rattle.elpi_cli.specs.Resolved.{program_table, resolved_program, searched_program, searched_query}
-use Rattle.elpi_cli.specs.Forms.{are_built_as, is_built_query}
+use Rattle.elpi_cli.specs.Forms.{are_built}
 use Rattle.elpi_cli.specs.Texts.{FileItems, all_items, file_of, grammar_name, grammar_line}
-use Rattle.elpi_cli.specs.Built.{unbuilt_query, unbuilt_text, not_yet_line}
+use Rattle.elpi_cli.specs.Built.{not_yet_line}
 use Rattle.elpi_cli.specs.Static.{breach_line}
 
 -- the text is refused with this line, unless memory is wanting
@@ -70,30 +70,12 @@ abbrev pub ChecksProgram : List FileEntry → List Item → (table : List (List 
 ChecksProgram files items table (Ok program) = IsCheckedOf items table program
 ChecksProgram files items table (Err stop) = IsBroken files items stop
 
--- the first of both texts that isn't built has this name
-abbrev pub IsUnbuiltOf : (name : List ℕ) → List Item → Program → Query → (text : List ℕ) → Type 0
-IsUnbuiltOf name items program query text = (if are_built_as items program then unbuilt_query (is_built_query query) else Some name) ≡ Some text
-
--- what looking at their forms may answer
-abbrev pub FormsAreBuilt : {A : Type 0} → (name : List ℕ) → List Item → Program → Query → Result A TextStop → Type 0
-FormsAreBuilt name items program query (Ok done) = (are_built_as items program ≡ true) × (is_built_query query ≡ true)
-FormsAreBuilt name items program query (Err (Refused last)) = (text : List ℕ) × IsUnbuiltOf name items program query text × (string_bytes last ≡ not_yet_line text)
-FormsAreBuilt name items program query (Err Memory) = ⊤
-
--- the engine for this query over this program of these items, all of which are built, with this table
-pub record IsEngineFor (items : List Item) (program : Program) (query : Query) (table : List (List ℕ)) (engine : Engine) : Type 0 where
-  pub built : are_built_as items program ≡ true
-  pub query_built : is_built_query query ≡ true
+-- the engine for this query over this program, with this table
+pub record IsEngineFor (program : Program) (query : Query) (table : List (List ℕ)) (engine : Engine) : Type 0 where
   pub symbols : engine.symbols ≡ table
   pub runs : Runs engine.machine (plain_program table program)
   pub begins : state_of (plain_program table program) engine.machine ≡ first_state (plain_query query)
   pub variables : engine.machine.variables ≡ query.vars
-
--- what building it may answer
-abbrev pub BuildsBoth : (name : List ℕ) → List Item → Program → Query → (table : List (List ℕ)) → Result Engine TextStop → Type 0
-BuildsBoth name items program query table (Ok engine) = IsEngineFor items program query table engine
-BuildsBoth name items program query table (Err (Refused last)) = (text : List ℕ) × IsUnbuiltOf name items program query text × (string_bytes last ≡ not_yet_line text)
-BuildsBoth name items program query table (Err Memory) = ⊤
 
 -- the one file of this name with these items
 abbrev pub one : (name : List ℕ) → List Item → List FileItems
@@ -101,19 +83,19 @@ one name items = file_of name items ∷ []
 
 -- the search of a goal over the items of a file, which are built
 pub record IsEngineOf (name : List ℕ) (items : List Item) (goal : AstTerm) (engine : Engine) : Type 0 where
-  pub built : unbuilt_text (one name items) goal ≡ None
+  pub built : are_built items ≡ true
   pub output : (steps limit : ℕ) → HasOutput engine.symbols engine.machine steps limit
       (searched (searched_program (all_items (one name items)) goal) (searched_query (all_items (one name items)) goal) steps limit)
 
--- a text isn't built, and the line names the first, unless memory is wanting
-abbrev pub IsUnbuilt : (name : List ℕ) → List Item → AstTerm → TextStop → Type 0
-IsUnbuilt name items goal (Refused last) = (text : List ℕ) × (unbuilt_text (one name items) goal ≡ Some text) × (string_bytes last ≡ not_yet_line text)
-IsUnbuilt name items goal Memory = ⊤
+-- the file isn't built, and the line says so, unless memory is wanting
+abbrev pub IsUnbuilt : (name : List ℕ) → List Item → TextStop → Type 0
+IsUnbuilt name items (Refused last) = (are_built items ≡ false) × (string_bytes last ≡ not_yet_line name)
+IsUnbuilt name items Memory = ⊤
 
 -- what building the search may answer
 abbrev pub BuildsEngine : (name : List ℕ) → List Item → AstTerm → Result Engine TextStop → Type 0
 BuildsEngine name items goal (Ok engine) = IsEngineOf name items goal engine
-BuildsEngine name items goal (Err stop) = IsUnbuilt name items goal stop
+BuildsEngine name items goal (Err stop) = IsUnbuilt name items stop
 
 -- What the texts behind the file's items may give: the engine that writes the output of the run, for any limits, or the
 -- line that is this output, where one of the texts is refused.

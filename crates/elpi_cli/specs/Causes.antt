@@ -23,7 +23,7 @@ use Rattle.lp_resolve.specs.StaticRules.{Breach, first_breach}
 use Rattle.elpi_cli.specs.Resolved.{resolved_program, searched_program, searched_query}
 use Rattle.elpi_cli.specs.Static.{breach_line}
 use Rattle.elpi_cli.specs.Texts.{file_limit, files_read, items_of, FileItems, all_items, items_read, goal_of}
-use Rattle.elpi_cli.specs.Built.{unbuilt_text, not_yet_line}
+use Rattle.elpi_cli.specs.Built.{unbuilt_file, not_yet_line}
 use Rattle.elpi_cli.specs.Top.{word_at, file_names, IsReached}
 
 -- the last piece of the output is this line
@@ -101,17 +101,17 @@ IsRefusedProgram files last =
 abbrev pub IsRefusedQuery : List FileEntry → (query last : List ℕ) → Type 0
 IsRefusedQuery files query last = (items : List FileItems) × AreChecked files items × (goal_of query ≡ Err last)
 
--- all texts are accepted and break no static rule, and the first that isn't built has this line
-abbrev pub IsUnbuiltText : List FileEntry → (query last : List ℕ) → Type 0
-IsUnbuiltText files query last =
-    (items : List FileItems) × (goal : AstTerm) × AreChecked files items × (goal_of query ≡ Ok goal)
-    × (name : List ℕ) × (unbuilt_text items goal ≡ Some name) × (last ≡ not_yet_line name)
+-- all texts are accepted and break no static rule, and the first file that isn't built has this line
+abbrev pub IsUnbuiltFile : List FileEntry → (query last : List ℕ) → Type 0
+IsUnbuiltFile files query last =
+    (items : List FileItems) × AreChecked files items × IsOk (goal_of query)
+    × (name : List ℕ) × (unbuilt_file items ≡ Some name) × (last ≡ not_yet_line name)
 
 -- all files are read, and the first refusal of a text has this line
 abbrev pub IsRefused : List (List ℕ) → List FileEntry → (last : List ℕ) → Type 0
 IsRefused words told last =
     (steps : ℕ) × (answers : ℕ) × (query : List ℕ) × (files : List FileEntry) × IsReady words told steps answers query files
-    × (IsRefusedFile files last ⊎ (IsRefusedProgram files last ⊎ (IsRefusedQuery files query last ⊎ IsUnbuiltText files query last)))
+    × (IsRefusedFile files last ⊎ (IsRefusedProgram files last ⊎ (IsRefusedQuery files query last ⊎ IsUnbuiltFile files query last)))
 
 -- the words and the files ask for the search of this query over this program, with at most so many steps and answers
 pub record Searches (words : List (List ℕ)) (told : List FileEntry) (program : Program) (query : Query) (steps answers : ℕ) : Type 0 where
@@ -122,7 +122,7 @@ pub record Searches (words : List (List ℕ)) (told : List FileEntry) (program :
   pub ready : IsReady words told steps answers text files
   pub checked : AreChecked files items
   pub goal_is : goal_of text ≡ Ok goal
-  pub built : unbuilt_text items goal ≡ None
+  pub built : unbuilt_file items ≡ None
   pub program_is : program ≡ searched_program (all_items items) goal
   pub query_is : query ≡ searched_query (all_items items) goal
 

@@ -120,8 +120,7 @@ fn write_answer<K: Sink>(
     }
 }
 
-/// Makes at most so many moves, and writes a block for each answer up to the limit, which 0 leaves out. A goal of a form
-/// that isn't built ends the search as want of memory does; no text that is built has its word.
+/// Makes at most so many moves, and writes a block for each answer up to the limit, which 0 leaves out.
 pub fn answer_query<K: Sink>(
     alloc: Global,
     symbols: &Symbols,

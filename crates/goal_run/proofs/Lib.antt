@@ -2,3 +2,4 @@ pub mod TableLemmas
 pub mod CodeLemmas
 pub mod LineLemmas
 pub mod StartLemmas
+pub mod SuspendedLemmas

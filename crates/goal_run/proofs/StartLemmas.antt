@@ -22,20 +22,22 @@ use Rattle.clause_compile.specs.declared.code.Code.{Code}
 use Rattle.clause_compile.specs.declared.query.QueryInstance.{QueryInstance}
 use Rattle.clause_compile.proofs.BuiltLemmas.{own-instance}
 use Rattle.clause_compile.proofs.CodeLemmas.{code-grown, code-oldest}
+use Rattle.clause_index.specs.Index.{IsIndexOf}
 use Rattle.search_moves.proofs.ListLemmas.{oldest-all}
 use Rattle.goal_run.specs.declared.code.ProgramCode.{ProgramCode}
 use Rattle.goal_run.specs.inside.Tables.{AreTables}
 use Rattle.goal_run.specs.inside.Code.{Stands}
 
 -- code that was made before the query's nodes stands over all of them
-pub begins : (f h : Graph) (code : Code) (c : ProgramCode) (p : Program) (ns : List Node) → Grows f h [] [] → IsCode (length f.nodes) f code p → c.code ≡ code → AreTables p.clauses 0 c.tables → ns ≡ h.nodes → Stands ns c p
-begins f h code c p ns w is e tables same = record {
+pub begins : (f h : Graph) (code : Code) (c : ProgramCode) (p : Program) (ns : List Node) → Grows f h [] [] → IsCode (length f.nodes) f code p → c.code ≡ code → AreTables p.clauses 0 c.tables → IsIndexOf p c.index → ns ≡ h.nodes → Stands ns c p
+begins f h code c p ns w is e tables index same = record {
   shared = length f.nodes;
   code = λ n g low over.
       subst (λ (z : Code). IsCode (length f.nodes) g z p) (sym e)
       (code-oldest (length f.nodes) (length h.nodes) n h g code p (omega (arith, ap length w.nodes, length-append w.new_nodes f.nodes)) (omega arith) low (over ∙ same ∙ sym (oldest-all h.nodes))
       (code-grown (length f.nodes) f h [] [] code p w is));
   tables = tables;
+  index = index;
 }
 
 -- nodes of variables that are numbered in a row

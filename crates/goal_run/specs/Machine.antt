@@ -9,18 +9,20 @@ use Rattle.search_moves.specs.declared.machine.Event.{Event}
 use Rattle.search_moves.specs.declared.machine.Phase.TheVariants.{Starved}
 use Rattle.search_moves.specs.World.{code_nodes}
 use Rattle.search_moves.specs.Machine as moves
-use Rattle.goal_run.specs.declared.code.ProgramCode.{ProgramCode}
-use Rattle.goal_run.specs.inside.Code.{Stands}
+use Rattle.clause_compile.specs.declared.code.Code.{Code}
+use Rattle.goal_run.specs.declared.tables.Tables.{Tables}
+use Rattle.goal_run.specs.inside.Code.{IsCodeFor}
 
--- the search, the program's code, and the query's variables
+-- the search, the program's code with the tables of its clauses, and the query's variables
 pub record Machine : Type 0 where
   pub moves : moves.Machine
-  pub code : ProgramCode
+  pub code : Code
+  pub tables : Tables
   pub variables : List QueryVar
 
 -- the machine's program is this one
 abbrev pub Runs : Machine → Program → Type 0
-Runs m p = Stands (code_nodes m.moves.world) m.code p
+Runs m p = IsCodeFor (code_nodes m.moves.world) m.code m.tables p
 
 -- the present branch: that of the answer, where the last event was one
 abbrev pub branch_of : Machine → Branch
@@ -41,7 +43,3 @@ HasMoved p move e m = moves.HasMoved p move e m.moves
 -- memory was wanting at a move
 abbrev pub IsStarved : Machine → Type 0
 IsStarved m = m.moves.phase ≡ Starved
-
--- its first goal is of a kind that isn't built
-abbrev pub MeetsUnbuilt : Machine → Type 0
-MeetsUnbuilt m = moves.MeetsUnbuilt m.moves

@@ -3,3 +3,4 @@ pub mod Code
 pub mod Lines
 pub mod Heading
 pub mod MachineView
+pub mod Suspended

@@ -7,7 +7,8 @@ mod clauses;
 mod code;
 mod machine;
 mod page;
+mod suspended;
 mod tables;
 
 pub use machine::Machine;
-pub use search_moves::{Event, Stop};
+pub use search_moves::Event;

@@ -1,6 +1,6 @@
 //! The machine: a program's code, a query's variables, and the search over them.
 
-ghost use Rattle.std.specs.Prelude.{◌≡◌, ℕ, List, [], IfOk, IfErr, map, reverse};
+ghost use Rattle.std.specs.Prelude.{◌≡◌, ℕ, List, [], IfOk, OnOk, OnErr, map, reverse};
 ghost use Rattle.ref_terms.specs.unification.Unification.{unify};
 ghost use Rattle.ref_terms.specs.search.Program.{Program};
 ghost use Rattle.ref_terms.specs.search.Next.{next};
@@ -8,8 +8,7 @@ ghost use Rattle.ref_terms.specs.search.Events.{first_state};
 ghost use Rattle.ref_terms.specs.texts.Answer.{answer_block};
 ghost use Rattle.lp_resolve.specs.Plain.{plain_program, plain_query, plain_variable};
 ghost use Rattle.lp_resolve.specs.Queries.{IsFormedQuery};
-ghost use Rattle.search_moves.specs.declared.machine.Stop.TheVariants.{Memory, NotYet};
-ghost use Rattle.goal_run.specs.Machine.{Machine, Runs, branch_of, state_of, HasMoved, MeetsUnbuilt, IsStarved};
+ghost use Rattle.goal_run.specs.Machine.{Machine, Runs, branch_of, state_of, HasMoved, IsStarved};
 
 use crate::answer::begin_page;
 use crate::code::ProgramCode;
@@ -18,7 +17,7 @@ use lam_io::ByteText;
 use level_terms::Heap;
 use lp_resolve::{Checked, Query, QueryVar, Symbols};
 use ref_terms::Choice;
-use search_moves::{Event, Machine as Moves, Stop};
+use search_moves::{Event, Machine as Moves};
 use std::alloc::{AllocError, Global};
 use std::marker::Model;
 use trail::Trail;
@@ -74,14 +73,13 @@ impl Machine {
     }
 
     /// One move of the search: its event, and the machine after it. After `Failure` and `Fault` it
-    /// answers the same again, and after want of memory `Stop::Memory`.
+    /// answers the same again.
     ///
-    /// Errors: want of memory, and a first goal of a kind that isn't built yet.
-    pub fn step(&mut self, symbols: &Symbols) -> Result<Event, Stop>
+    /// Errors: want of memory, which comes again from then on.
+    pub fn step(&mut self, symbols: &Symbols) -> Result<Event, AllocError>
         ensures moved { IfOk result (λ e. (p : Program) → Runs self.old p → p.symbols ≡ symbols.now → p.rules ≡ [] → HasMoved p (next unify p (state_of p self.old)) e self.new) }
-        ensures not_yet { IfErr result (λ stop. stop ≡ NotYet → MeetsUnbuilt self.old) }
-        ensures starved { IfErr result (λ stop. stop ≡ Memory → IsStarved self.new) }
-        ensures stays { IfOk result (λ e. IsStarved self.old → ⊥) }
+        ensures starved { OnErr result (IsStarved self.new) }
+        ensures stays { OnOk result (IsStarved self.old → ⊥) }
         ensures program { (p : Program) → Runs self.old p → Runs self.new p }
         ensures variables { self.new.variables ≡ self.old.variables }
     {

@@ -9,12 +9,15 @@ ghost use Rattle.beta_fragment.specs.Names.{names};
 ghost use Rattle.ref_terms.specs.texts.Text.{symbol};
 ghost use Rattle.goal_run.specs.inside.Lines.{Adds, value_line, lines_of};
 
+use crate::suspended::write_store;
+use hyp_context::Context;
 use lam_io::ByteText;
 use level_terms::{Heap, TermId};
 use lp_resolve::{QueryVar, Symbols};
 use ref_terms::Sym;
 use search_moves::Visitor;
 use std::alloc::{AllocError, Global};
+use suspend::Store;
 use term_print::{Namer, print_term};
 
 /// The lines that were written of an answer, over the texts of the symbols and the query's variables.
@@ -120,13 +123,23 @@ impl Visitor for Page<'_> {
         alloc: Global,
         heap: &mut Heap,
         query: &[TermId],
+        store: &Store<Context>,
     ) -> Result<(), AllocError> {
+        heap.is_sound();
         write_variables(
             alloc,
             heap,
             self.symbols,
             self.variables,
             query,
+            &mut self.namer,
+            &mut self.text,
+        )?;
+        write_store(
+            alloc,
+            heap,
+            self.symbols,
+            store,
             &mut self.namer,
             &mut self.text,
         )

@@ -109,15 +109,11 @@ impl Tables {
         None
     }
 
-    /// The first clause of a constant from a number on. Takes no memory, and constant time where the
-    /// number is 0 or that of one of the constant's clauses.
-    pub(crate) fn next_from(&self, c: Sym, from: usize) -> Option<usize>
-        ensures { (ks : List Clause) → AreTables ks 0 self.now → IsNextClause ks c.0 from result }
+    /// The first clause of a constant. Takes no memory, and constant time.
+    pub(crate) fn first_clause(&self, c: Sym) -> Option<usize>
+        ensures { (ks : List Clause) → AreTables ks 0 self.now → IsNextClause ks c.0 0 result }
     {
-        if from == 0 {
-            return self.first_of(c);
-        }
-        self.scan(c, from)
+        self.first_of(c)
     }
 
     /// The first clause of a constant after a clause. Takes no memory, and constant time where the clause

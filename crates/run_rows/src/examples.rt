@@ -77,6 +77,33 @@ elab (fn x\\ app x x) T A ¦ failure / 1
 elab (app z z) T A ¦ failure / 1
 elab E T nat ¦ failure / 1";
 
+/// `freeze.lp`.
+const FREEZE: &str = "% Goals that wait: `freeze X G` runs G as soon as X isn't a variable any more.
+pred freeze o:t, o:o.
+freeze X G :- declare_constraint G [X].
+
+% `plus M N K`: K is M + N, as soon as both are known; it waits for one after the other.
+pred plus o:int, o:int, o:int.
+plus M N K :- freeze M (freeze N (K is M + N)).
+
+% `other X Y`: X and Y are other colours; it waits until both are known.
+pred colour o:c.
+colour red.
+colour green.
+pred other o:c, o:c.
+other X Y :- freeze X (freeze Y (differ X Y)).
+pred differ i:c, i:c.
+differ X X :- !, fail.
+differ _ _.";
+
+/// Queries over it.
+const FREEZE_ROWS: &str = "freeze X (print X), X = a ¦ a / answer 1 /   X = a / no more / 0
+plus X 2 Y ¦ answer 1 /   X = ?0 /   Y = ?1 /   delayed [] [] ?- freeze 2 (?1 is (?0 + 2)) / no more / 0
+plus X 2 Y, X = 1 ¦ answer 1 /   X = 1 /   Y = 3 / no more / 0
+other X Y, colour X, Y = red ¦ answer 1 /   X = green /   Y = red / no more / 0
+other X Y, X = red, Y = red ¦ failure / 1
+pi x\\ h x => freeze Y (p x Y) ¦ answer 1 /   Y = ?0 /   delayed [#0] [h #0] ?- p #0 ?0 / no more / 0";
+
 /// Runs each query of a table over the program.
 fn expect_queries(alloc: Global, program: &str, rows: &str) -> Result<(), Fail> {
     for row in rows.lines() {
@@ -99,4 +126,9 @@ fn numbers_are_calculated(rt: HostRuntime) -> Result<(), Fail> {
 #[test]
 fn terms_are_elaborated(rt: HostRuntime) -> Result<(), Fail> {
     expect_queries(rt.alloc(), ELABORATOR, ELABORATOR_ROWS)
+}
+
+#[test]
+fn goals_wait(rt: HostRuntime) -> Result<(), Fail> {
+    expect_queries(rt.alloc(), FREEZE, FREEZE_ROWS)
 }

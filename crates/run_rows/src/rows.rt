@@ -111,6 +111,32 @@ p :- (q, ! ; r). q. r. ¦ p ¦ answer 1 / no more / 0
 (p a) :- (q), (r, q). (q) . r. ¦ (p (a)). ¦ answer 1 / no more / 0
 pred q o:t. q a. pred ap o:t. ap F :- F a. ¦ ap (x\\ q x, q x) ¦ answer 1 / no more / 0";
 
+/// Suspended goals: which wake and when, and which are left in an answer.
+const SUSPENDED: &str =
+    "pred s o:t. pred t o:t. s X :- declare_constraint (t X) [X]. t a. ¦ s X, fail ; X = b ¦ answer 1 /   X = b / no more / 0
+pred t o:t. pred s o:t. t X :- print X. s X :- declare_constraint (t X) [X]. ¦ s X, s Y, Y = b, X = a ¦ b / a / answer 1 /   X = a /   Y = b / no more / 0
+¦ declare_constraint true X ¦ fault: not-goal / 4
+pred s o:t. pred t o:t. s X :- declare_constraint (t X) [X]. t a. t b. ¦ s X, (X = a, fail ; X = b) ¦ answer 1 /   X = b / no more / 0
+¦ declare_constraint (print 1) [X], declare_constraint (print 2) [X], X = a ¦ 1 / 2 / answer 1 /   X = a / no more / 0
+¦ declare_constraint (p X) [X], declare_constraint (q X) [X] ¦ answer 1 /   X = ?0 /   delayed [] [] ?- p ?0 /   delayed [] [] ?- q ?0 / no more / 0
+¦ pi x\\ h x => declare_constraint (p x) [Y] ¦ answer 1 /   Y = ?0 /   delayed [#0] [h #0] ?- p #0 / no more / 0
+¦ h a => g => declare_constraint p [X] ¦ answer 1 /   X = ?0 /   delayed [] [g; h a] ?- p / no more / 0
+¦ (q X :- r X) => declare_constraint (q Y) [Y] ¦ answer 1 /   X = ?0 /   Y = ?1 /   delayed [] [(q ?0) :- (r ?0)] ?- q ?1 / no more / 0
+¦ h a => declare_constraint (h Y) [X], X = b ¦ answer 1 /   Y = a /   X = b / no more / 0
+¦ declare_constraint fail [] ¦ answer 1 /   delayed [] [] ?- fail / no more / 0
+¦ declare_constraint (print 1) [(x\\ x)] ¦ 1 / answer 1 / no more / 0
+¦ declare_constraint (print 1) [X, a] ¦ 1 / answer 1 /   X = ?0 / no more / 0
+¦ declare_constraint true [X | Y] ¦ fault: not-goal / 4
+¦ declare_constraint p [X], fail ; Y = b ¦ answer 1 /   X = ?0 /   Y = b / no more / 0
+¦ declare_constraint (print 1) [X], (X = a ; true) ¦ 1 / answer 1 /   X = a / answer 2 /   X = ?0 /   delayed [] [] ?- print 1 / no more / 0
+¦ declare_constraint ! [X], (X = a ; X = b) ¦ answer 1 /   X = a / answer 2 /   X = b / no more / 0
+¦ declare_constraint (print 2) [X], X = Y, print 1, Y = a ¦ 1 / 2 / answer 1 /   X = a /   Y = a / no more / 0
+¦ declare_constraint (p X Y) [X, Y], X = Y ¦ answer 1 /   X = ?0 /   Y = ?0 /   delayed [] [] ?- p ?0 ?0 / no more / 0
+¦ declare_constraint (p Y X) [X], Z = f Y ¦ answer 1 /   Y = ?0 /   X = ?1 /   Z = f ?0 /   delayed [] [] ?- p ?0 ?1 / no more / 0
+¦ pi x\\ declare_constraint (p (X x) (Y x)) [X x, Y x] ¦ answer 1 /   X = ?0 /   Y = ?1 /   delayed [#0] [] ?- p (?0 #0) (?1 #0) / no more / 0
+¦ pi x\\ (declare_constraint (print (X x)) [X x], X = f) ¦ f #0 / answer 1 /   X = f / no more / 0
+pred s o:t. s X :- declare_constraint (nope X) [X]. ¦ s X, X = a ¦ fault: unknown / 4";
+
 /// Texts that are refused, and texts beside them that run.
 const REFUSED: &str = "p a. p. ¦ p X ¦ refused: a:1:6: S3 / 3
 X a. ¦ p ¦ refused: a:1:1: S2 / 3
@@ -134,9 +160,8 @@ p \"abc ¦ p ¦ refused: a:1:3: string / 3
 p. % no more ¦ p ¦ answer 1 / no more / 0
 constraint p { } ¦ p ¦ refused: a: not yet / 3
 p. constraint p { rule (p) <=> true. } ¦ p ¦ refused: a: not yet / 3
-p X :- declare_constraint (q X) [X]. ¦ r ¦ refused: a: not yet / 3
-p (f declare_constraint). ¦ p X ¦ refused: a: not yet / 3
-¦ declare_constraint true X ¦ refused: query: not yet / 3
+p X :- declare_constraint (q X) [X]. ¦ r ¦ fault: unknown / 4
+p (f declare_constraint). ¦ p X ¦ answer 1 /   X = f declare_constraint / no more / 0
 constraint p { } ¦ declare_constraint true X ¦ refused: a: not yet / 3
 constraint p { } ¦ p ) ¦ refused: query:1:3: query / 3
 constraint p { } fail. ¦ p ) ¦ refused: a:1:18: S5 / 3
@@ -170,6 +195,11 @@ fn assumptions_write_the_rows(rt: HostRuntime) -> Result<(), Fail> {
 #[test]
 fn programs_write_the_rows(rt: HostRuntime) -> Result<(), Fail> {
     expect_rows(rt.alloc(), PROGRAMS)
+}
+
+#[test]
+fn suspended_goals_write_the_rows(rt: HostRuntime) -> Result<(), Fail> {
+    expect_rows(rt.alloc(), SUSPENDED)
 }
 
 #[test]

@@ -25,7 +25,8 @@ use Rattle.hyp_context.proofs.ContextLemmas.{for-read, for_pred-reads}
 use Rattle.search_moves.specs.declared.frame.Later.TheVariants.{Assumptions, Clauses}
 use Rattle.search_moves.specs.World.{IsUsable, AllUsable, IsContextAt}
 use Rattle.search_moves.specs.Reading.{first_assumptions, later_of}
-use Rattle.search_moves.specs.Calling.{IsMadeOf, IsNextClause, IsLeftAfter, clauses_from}
+use Rattle.search_moves.specs.Instances.{IsMadeOf}
+use Rattle.search_moves.specs.Calling.{IsNextClause, IsLeftAfter, clauses_from}
 use Rattle.search_moves.proofs.MachineLemmas.{drop-map}
 use Rattle.search_moves.proofs.FrameLemmas.{all-valid-grown}
 use Rattle.search_moves.proofs.OwnLemmas.{stays-headed}
@@ -125,9 +126,11 @@ made-assumed g0 g1 g2 h head body depth sound0 sound1 usable valid grows1 grows2
     let a = assumption_in g0 h in
     let n = length g0.depths in
     record {
-      heads = read-grown_all g1 g2 depth sound1 grows2 head.args.items args_valid ∙ args ∙ sym (args-of_assumption a g0 h depth depth n refl usable);
+      head = record {
+        heads = read-grown_all g1 g2 depth sound1 grows2 head.args.items args_valid ∙ args ∙ sym (args-of_assumption a g0 h depth depth n refl usable);
+        variables = ap length depths2 ∙ ap length depths1 ∙ length-append g0.depths (replicate h.pis depth) ∙ ap (λ k. n + k) (length-replicate h.pis depth);
+        heads_valid = all-valid-grown g1 g2 [] [] depth sound1 grows2 head.args.items args_valid;
+      };
       body = conditions ∙ ap (λ x. map (parameter_instance x head.depth head.first_fresh.index) x.conditions) (one-read g0 g1 h sound0 grows1 valid) ∙ ap₂ (λ d k. map (parameter_instance a d k) a.conditions) at first;
-      variables = ap length depths2 ∙ ap length depths1 ∙ length-append g0.depths (replicate h.pis depth) ∙ ap (λ k. n + k) (length-replicate h.pis depth);
-      heads_valid = all-valid-grown g1 g2 [] [] depth sound1 grows2 head.args.items args_valid;
       body_valid = subst (AllValidAt g2 body) at body_valid;
     }

@@ -1,13 +1,11 @@
 -- What built-ins come to.
-use Rattle.std.proofs.Common.{◌≡◌, ℕ, List, Option, length, refl, sym, ap, ap₂, ◌∙◌, subst}
+use Rattle.std.proofs.Common.{◌≡◌, ℕ, List, Option, length, refl, sym, ap, ap₂, ◌∙◌}
 use Rattle.level_terms.specs.declared.node.TermId.{TermId}
 use Rattle.level_terms.specs.Graph.{Graph}
 use Rattle.beta_fragment.specs.HeadForm.{all_read}
-use Rattle.ref_terms.specs.unification.Unification.{unify}
 use Rattle.ref_terms.specs.declared.fault.Fault.{Fault}
 use Rattle.ref_terms.specs.declared.reserved.Reserved.{Reserved}
 use Rattle.ref_terms.specs.search.Formula.{reserved_goal}
-use Rattle.ref_terms.specs.search.GoalMove.{kind_move}
 use Rattle.ref_terms.specs.search.Program.{Program}
 use Rattle.ref_terms.specs.search.Branch.{Branch, bound_branch, with_goals}
 use Rattle.ref_terms.specs.search.State.{Alternative, Running, Move, faults}

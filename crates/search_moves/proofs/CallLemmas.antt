@@ -18,7 +18,8 @@ use Rattle.ref_terms.specs.search.Resolve.{Tried, Clashes, equations_at, entered
 use Rattle.search_moves.specs.Matching.{tried_at}
 use Rattle.ref_terms.specs.declared.sym.Sym.{Sym}
 use Rattle.ref_terms.specs.search.Program.{Program}
-use Rattle.search_moves.specs.Calling.{IsMadeOf, IsNextClause, IsLeftAfter, IsFirstClause, clauses_from}
+use Rattle.search_moves.specs.Instances.{IsHeadMade}
+use Rattle.search_moves.specs.Calling.{IsNextClause, IsLeftAfter, IsFirstClause, clauses_from}
 
 -- what the reference makes of a clause, by all that it asks of it
 abbrev tried_by : Branch → Goal → List Goal → (barrier mark : ℕ) → Candidate → (ms : List Bool) → (ss ts : List Term) → (next : ℕ) → (body : List Term) → Tried
@@ -26,22 +27,21 @@ tried_by branch goal rest barrier mark c ms ss ts n body = cond (nat_eq (length 
     (matched unify (entered branch goal rest barrier c body) (equations_at false goal.names ms ss ts) (unify mark (record { next_var = n; equations = equations_at true goal.names ms ss ts; bindings = [] })))
     Clashes
 
--- a clause is tried by the nodes of its instance
-pub try-at : (g h : Graph) (modes : Option (List Bool)) (branch : Branch) (goal : Goal) (rest : List Goal) (barrier : ℕ) (c : Candidate) (hs body : List TermId) (ms : List Bool) (args : List TermId)
-    → branch.next_var ≡ length g.depths → args_of goal.term ≡ all_read h args → ms ≡ unwrap_or modes (replicate (length (args_of goal.term)) false) → IsMadeOf (candidate_instance c goal.names (length g.depths)) goal.names h hs body
+-- a clause is tried by the nodes of its head
+pub try-at : (g h : Graph) (modes : Option (List Bool)) (branch : Branch) (goal : Goal) (rest : List Goal) (barrier : ℕ) (c : Candidate) (hs : List TermId) (ms : List Bool) (args : List TermId)
+    → branch.next_var ≡ length g.depths → args_of goal.term ≡ all_read h args → ms ≡ unwrap_or modes (replicate (length (args_of goal.term)) false) → IsHeadMade (candidate_instance c goal.names (length g.depths)) goal.names h hs
     → try unify modes branch goal rest barrier c
-    ≡ cond (nat_eq (length hs) (length args)) (tried_at h (length g.depths) goal.names ms hs args (entered branch goal rest barrier c (all_read h body))) Clashes
-try-at g h modes branch goal rest barrier c hs body ms args next reads inputs is =
+    ≡ cond (nat_eq (length hs) (length args)) (tried_at h (length g.depths) goal.names ms hs args (entered branch goal rest barrier c (candidate_instance c goal.names (length g.depths)).body)) Clashes
+try-at g h modes branch goal rest barrier c hs ms args next reads inputs is =
     let n = length g.depths in
     let inst = candidate_instance c goal.names n in
-    let by : List Bool → List Term → List Term → ℕ → List Term → Tried = tried_by branch goal rest barrier n c in
+    let by : List Bool → List Term → List Term → ℕ → Tried = λ ms ss ts k. tried_by branch goal rest barrier n c ms ss ts k inst.body in
     ap (λ m. tried_by branch goal rest barrier m c (unwrap_or modes (replicate (length (args_of goal.term)) false)) (args_of (candidate_instance c goal.names m).head) (args_of goal.term) (candidate_instance c goal.names m).next_var (candidate_instance c goal.names m).body) next
-    ∙ ap (λ x. by x (args_of inst.head) (args_of goal.term) inst.next_var inst.body) (sym inputs)
-    ∙ ap (λ x. by ms x (args_of goal.term) inst.next_var inst.body) (sym is.heads)
-    ∙ ap (λ x. by ms (all_read h hs) x inst.next_var inst.body) reads
-    ∙ ap (λ x. by ms (all_read h hs) (all_read h args) x inst.body) (sym is.variables)
-    ∙ ap (λ x. by ms (all_read h hs) (all_read h args) (length h.depths) x) (sym is.body)
-    ∙ ap₂ (λ a b. cond (nat_eq a b) (tried_at h n goal.names ms hs args (entered branch goal rest barrier c (all_read h body))) Clashes)
+    ∙ ap (λ x. by x (args_of inst.head) (args_of goal.term) inst.next_var) (sym inputs)
+    ∙ ap (λ x. by ms x (args_of goal.term) inst.next_var) (sym is.heads)
+    ∙ ap (λ x. by ms (all_read h hs) x inst.next_var) reads
+    ∙ ap (λ x. by ms (all_read h hs) (all_read h args) x) (sym is.variables)
+    ∙ ap₂ (λ a b. cond (nat_eq a b) (tried_at h n goal.names ms hs args (entered branch goal rest barrier c inst.body)) Clashes)
     (length-map hs (λ t. read h t.index names)) (length-map args (λ t. read h t.index names))
 
 -- bindings on the branch that was entered
@@ -60,7 +60,7 @@ entered-bound bs n branch goal rest barrier c body =
     bodies bs goal barrier (t ∷ ts) = ap (λ (xs : List Goal). record (bound_goal bs goal) { barrier = barrier; term = bound bs t } ∷ xs) (bodies bs goal barrier ts)
 
 -- the clause with a number stands first in what is left from it on
-drop-at : (ks : List Clause) (i : ℕ) (k : Clause) → slice_get ks i ≡ Some k → drop i ks ≡ k ∷ drop (suc i) ks
+pub drop-at : (ks : List Clause) (i : ℕ) (k : Clause) → slice_get ks i ≡ Some k → drop i ks ≡ k ∷ drop (suc i) ks
 drop-at [] i k e = absurd (let z : ◌≡◌ {A = Option Clause} None (Some k) = e in cc)
 drop-at (x ∷ ks) zero k e = let same : x ≡ k = cc in ap (λ (y : Clause). y ∷ ks) same
 drop-at (x ∷ ks) (suc i) k e = drop-at ks i k e

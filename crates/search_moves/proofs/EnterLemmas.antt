@@ -1,5 +1,5 @@
 -- A clause that is tried on a call: the machine before it, with the clause's nodes, and after its head was unified.
-use Rattle.std.proofs.Common.{◌≡◌, ℕ, zero, suc, ◌<◌, Bool, false, List, [], ◌∷◌, ◌++◌, length, map, slice_get, Option, Some, None, IfSome, unwrap_or, replicate, refl, sym, ap, ap₂, ◌∙◌, arith, subst, append_assoc, append-nil}
+use Rattle.std.proofs.Common.{◌≡◌, ℕ, zero, suc, ◌<◌, Bool, false, List, [], ◌∷◌, ◌++◌, length, map, get_or, slice_get, Option, Some, None, IfSome, unwrap_or, replicate, refl, sym, ap, ap₂, ◌∙◌, arith, subst, append_assoc, append-nil}
 use Rattle.std.proofs.lemmas.List.{length-map}
 use Rattle.level_terms.specs.declared.node.TermId.{TermId}
 use Rattle.level_terms.specs.Graph.{Graph}
@@ -7,8 +7,9 @@ use Rattle.level_terms.specs.Growth.{Grows}
 use Rattle.level_terms.specs.Reading.{read}
 use Rattle.level_terms.specs.Sound.{IsSound}
 use Rattle.level_terms.specs.Valid.{IsValid}
+use Rattle.level_terms.proofs.ReadLemmas.{valid-below}
 use Rattle.beta_fragment.specs.Names.{names}
-use Rattle.beta_fragment.specs.HeadForm.{all_read}
+use Rattle.beta_fragment.specs.HeadForm.{all_read, AllValidAt}
 use Rattle.beta_fragment.specs.declared.answer.UnifyStop.{UnifyStop}
 use Rattle.beta_fragment.specs.declared.answer.UnifyStop.TheVariants.{Fault, Memory}
 use Rattle.beta_fragment.proofs.HeadLemmas.{read-grown_all}
@@ -17,6 +18,7 @@ use Rattle.ref_terms.specs.terms.Term.{Term, Head, At, App, Con}
 use Rattle.ref_terms.specs.unification.Spine.{args_of, head_of, apply_all}
 use Rattle.ref_terms.specs.search.Program.{Program, Clause}
 use Rattle.ref_terms.specs.search.State.{Alternative, Candidate, later_clauses}
+use Rattle.ref_terms.specs.search.Instance.{ClauseInstance}
 use Rattle.ref_terms.specs.search.Candidates.{choice_of, candidate_instance}
 use Rattle.ref_terms.specs.search.BranchMove.{with_later}
 use Rattle.ref_terms.specs.search.Branch.{Goal, Branch, bound, bound_goal, bound_branch}
@@ -34,7 +36,8 @@ use Rattle.search_moves.specs.Saved.{AllSaved, HasLeft, IsLaterOf, IsCallLeft, K
 use Rattle.search_moves.specs.Reading.{goal_in, branch_in, left_at, saved_in}
 use Rattle.search_moves.specs.Moves.{Growing, LeavesRest}
 use Rattle.search_moves.specs.Machine.{Machine, branch_of, alternatives_of, rest_of, IsFirst}
-use Rattle.search_moves.specs.Calling.{IsMadeOf, IsCall, HasInputs, tried_made, tried_here, HasFitted, HasClashed, HasBroken, BreaksSo, IsLeftAfter, LeavesLater, clauses_from}
+use Rattle.search_moves.specs.Instances.{IsHeadMade, ReadAsVariables}
+use Rattle.search_moves.specs.Calling.{IsCall, HasInputs, tried_made, tried_here, HasFitted, HasClashed, HasBroken, BreaksSo, IsLeftAfter, LeavesLater, clauses_from}
 use Rattle.search_moves.proofs.CallLemmas.{try-at, entered-bound}
 use Rattle.search_moves.proofs.GrowLemmas.{no-notes, first-grown, growing-keeps}
 use Rattle.search_moves.proofs.SavedLemmas.{all-kept}
@@ -69,21 +72,35 @@ first-is m f b g gs h e is = ap (λ xs. first_goal xs g) (sym (goals-are m f h) 
 pub rest-is : (m : Machine) (f : Frame) (b : Branch) (g : Goal) (gs : List Goal) → IsFirst m f → branch_of m ≡ b → b.goals ≡ g ∷ gs → rest_of m f ≡ gs
 rest-is m f b g gs h e is = ap later_goals (sym (goals-are m f h) ∙ ap (λ x. x.goals) e ∙ is)
 
--- the branch that the reference would enter, with the body's nodes
-abbrev pub in_place : Machine → Graph → Call → Candidate → List TermId → Branch
-in_place m h call c body = entered (branch_of m) (goal_in m.world.heap call.goal.now) (rest_of m call.goal.now) (length m.saved) c (all_read h body)
+-- the branch in which terms were put in the place of the first goal
+abbrev pub with_terms : Branch → Goal → List Goal → (barrier : ℕ) → List Term → Choice → Branch
+with_terms b goal rest barrier ts choice = record b { goals = map (λ t. record goal { barrier = barrier; term = t }) ts ++ rest; path = choice ∷ b.path }
 
--- the machine has the clause's nodes
-pub record HasMade (m0 m1 : Machine) (call : Call) (c : Candidate) (hs body : List TermId) : Type 0 where
+-- one of valid nodes
+valid-at : (g : Graph) (depth : ℕ) (ts : List TermId) (v : ℕ) → AllValidAt g ts depth → v < length ts → IsValid g (get_or ts v (record { index = 0 })).index depth
+valid-at g depth [] v valid l = absurd (omega (arith, l))
+valid-at g depth (t ∷ ts) zero valid l = valid.0
+valid-at g depth (t ∷ ts) (suc v) valid l = valid-at g depth ts v valid.1 (omega (arith, l))
+
+-- the instance of a clause that the call would make
+abbrev pub instance_for : Machine → Call → Candidate → ClauseInstance
+instance_for m call c = candidate_instance c call.goal.now.depth (length m.world.heap.depths)
+
+-- the branch that the reference would enter
+abbrev pub in_place : Machine → Call → Candidate → Branch
+in_place m call c = entered (branch_of m) (goal_in m.world.heap call.goal.now) (rest_of m call.goal.now) (length m.saved) c (instance_for m call c).body
+
+-- the machine has the nodes of the clause's head
+pub record HasMade (m0 m1 : Machine) (call : Call) (c : Candidate) (hs : List TermId) : Type 0 where
   pub fine : IsFine m0.world m0.first
   pub sound : IsSound m0.world.heap
   pub is_call : IsCall m0 call
   pub grows : Grows m0.world.heap m1.world.heap [] []
   pub rest : LeavesRest m0.world m1.world
   pub same : m1.first ≡ m0.first
-  pub instance : IsMadeOf (candidate_instance c call.goal.now.depth (length m0.world.heap.depths)) call.goal.now.depth m1.world.heap hs body
+  pub head : IsHeadMade (instance_for m0 call c) call.goal.now.depth m1.world.heap hs
 
-module _ (m0 m1 : Machine) (call : Call) (c : Candidate) (hs body : List TermId) (has : HasMade m0 m1 call c hs body) where
+module _ (m0 m1 : Machine) (call : Call) (c : Candidate) (hs : List TermId) (has : HasMade m0 m1 call c hs) where
   args-stay : all_read m1.world.heap call.args.now ≡ all_read m0.world.heap call.args.now
   args-stay = read-grown_all m0.world.heap m1.world.heap call.goal.now.depth has.sound has.grows call.args.now has.is_call.args
 
@@ -96,17 +113,17 @@ module _ (m0 m1 : Machine) (call : Call) (c : Candidate) (hs body : List TermId)
 
   -- the reference tries the clause by its nodes
   pub tried-by : (modes : Option (List Bool)) → HasInputs call modes → tried_here m0 call.goal.now modes c
-      ≡ tried_made m1.world.heap (length m0.world.heap.depths) call.goal.now.depth call.inputs.now hs call.args.now (in_place m0 m1.world.heap call c body)
+      ≡ tried_made m1.world.heap (length m0.world.heap.depths) call.goal.now.depth call.inputs.now hs call.args.now (in_place m0 call c)
   tried-by modes inputs =
-      try-at m0.world.heap m1.world.heap modes (branch_of m0) (goal_in m0.world.heap call.goal.now) (rest_of m0 call.goal.now) (length m0.saved) c hs body call.inputs.now call.args.now refl args-are (inputs-are modes inputs) has.instance
+      try-at m0.world.heap m1.world.heap modes (branch_of m0) (goal_in m0.world.heap call.goal.now) (rest_of m0 call.goal.now) (length m0.saved) c hs call.inputs.now call.args.now refl args-are (inputs-are modes inputs) has.head
 
   pub clause-clashes : (modes : Option (List Bool)) → HasInputs call modes → HasClashed (length m0.world.heap.depths) call.goal.now.depth call.inputs.now hs call.args.now m1.world.heap
       → tried_here m0 call.goal.now modes c ≡ Clashes
-  clause-clashes modes inputs clash = tried-by modes inputs ∙ clash (in_place m0 m1.world.heap call c body)
+  clause-clashes modes inputs clash = tried-by modes inputs ∙ clash (in_place m0 call c)
 
   pub clause-breaks : (modes : Option (List Bool)) → HasInputs call modes → (stop : UnifyStop) → HasBroken (length m0.world.heap.depths) call.goal.now.depth call.inputs.now hs call.args.now m1.world.heap stop
       → BreaksSo (tried_here m0 call.goal.now modes c) stop
-  clause-breaks modes inputs (Fault e) b = tried-by modes inputs ∙ b (in_place m0 m1.world.heap call c body)
+  clause-breaks modes inputs (Fault e) b = tried-by modes inputs ∙ b (in_place m0 call c)
   clause-breaks modes inputs Memory b = tt
 
   made-branch : branch_of m1 ≡ record (branch_of m0) { next_var = length m1.world.heap.depths }
@@ -139,31 +156,37 @@ module _ (m0 m1 : Machine) (call : Call) (c : Candidate) (hs body : List TermId)
         rest-is m2 call.goal.now (bound_branch fits.made (length m2.world.heap.depths) (branch_of m1)) (bound_goal fits.made (goal_in m1.world.heap call.goal.now)) (map (bound_goal fits.made) (rest_of m1 call.goal.now)) fitted-first fits.branch bound-goals
         ∙ ap (map (bound_goal fits.made)) rest1
 
-    body2 : all_read m2.world.heap body ≡ map (bound fits.made) (all_read m1.world.heap body)
-    body2 = nodes-bound m1.world.heap m2.world.heap fits.made call.goal.now.depth fits.readings body has.instance.body_valid
+    -- a body that was made before the head was unified
+    pub body-early : (body : List TermId) → all_read m1.world.heap body ≡ (instance_for m0 call c).body → AllValidAt m1.world.heap body call.goal.now.depth
+        → all_read m2.world.heap body ≡ map (bound fits.made) (instance_for m0 call c).body
+    body-early body is valid = nodes-bound m1.world.heap m2.world.heap fits.made call.goal.now.depth fits.readings body valid ∙ ap (map (bound fits.made)) is
+
+    -- the nodes of its variables then
+    pub variables-bound : (next : ℕ) (variables : List TermId) → AllValidAt m1.world.heap variables call.goal.now.depth → ReadAsVariables m1.world.heap [] call.goal.now.depth next variables
+        → ReadAsVariables m2.world.heap fits.made call.goal.now.depth next variables
+    variables-bound next variables valid reads v l =
+        let t = get_or variables v (record { index = 0 }) in
+        fits.readings t.index names (valid-below m1.world.heap t.index call.goal.now.depth (valid-at m1.world.heap call.goal.now.depth variables v valid l)) ∙ ap (bound fits.made) (reads v l)
 
     -- the branch with the clause's body is the one that the reference gives
-    pub clause-fits : (modes : Option (List Bool)) → HasInputs call modes → (new : Branch)
-        → new ≡ record (branch_of m2) {
-          goals = map (λ t. record (goal_in m2.world.heap call.goal.now) { barrier = length m0.saved; term = t }) (all_read m2.world.heap body) ++ rest_of m2 call.goal.now;
-          path = choice_of c ∷ (branch_of m2).path;
-        }
+    pub clause-fits : (modes : Option (List Bool)) → HasInputs call modes → (ts : List Term) → ts ≡ map (bound fits.made) (instance_for m0 call c).body → (new : Branch)
+        → new ≡ with_terms (branch_of m2) (goal_in m2.world.heap call.goal.now) (rest_of m2 call.goal.now) (length m0.saved) ts (choice_of c)
         → tried_here m0 call.goal.now modes c ≡ Fits new
-    clause-fits modes inputs new is =
+    clause-fits modes inputs ts body new is =
         let bs = fits.made in
         let n = length m2.world.heap.depths in
         let shape : Branch → List Goal → Branch = λ b gs. record b { goals = gs; path = choice_of c ∷ b.path } in
         let goals : Goal → List Term → List Goal → List Goal = λ x ts xs. map (λ t. record x { barrier = length m0.saved; term = t }) ts ++ xs in
         let b2 : branch_of m2 ≡ bound_branch bs n (branch_of m0) = fits.branch ∙ ap (bound_branch bs n) made-branch in
-        let gs : goals (goal_in m2.world.heap call.goal.now) (all_read m2.world.heap body) (rest_of m2 call.goal.now)
-        ≡ goals (bound_goal bs (goal_in m0.world.heap call.goal.now)) (map (bound bs) (all_read m1.world.heap body)) (map (bound_goal bs) (rest_of m0 call.goal.now)) =
-        ap (λ x. goals x (all_read m2.world.heap body) (rest_of m2 call.goal.now)) goal2
-        ∙ ap (λ ts. goals (bound_goal bs (goal_in m0.world.heap call.goal.now)) ts (rest_of m2 call.goal.now)) body2
-        ∙ ap (goals (bound_goal bs (goal_in m0.world.heap call.goal.now)) (map (bound bs) (all_read m1.world.heap body))) rest2-is in
-        let same : new ≡ bound_branch bs n (in_place m0 m1.world.heap call c body) =
+        let gs : goals (goal_in m2.world.heap call.goal.now) ts (rest_of m2 call.goal.now)
+        ≡ goals (bound_goal bs (goal_in m0.world.heap call.goal.now)) (map (bound bs) (instance_for m0 call c).body) (map (bound_goal bs) (rest_of m0 call.goal.now)) =
+        ap (λ x. goals x ts (rest_of m2 call.goal.now)) goal2
+        ∙ ap (λ xs. goals (bound_goal bs (goal_in m0.world.heap call.goal.now)) xs (rest_of m2 call.goal.now)) body
+        ∙ ap (goals (bound_goal bs (goal_in m0.world.heap call.goal.now)) (map (bound bs) (instance_for m0 call c).body)) rest2-is in
+        let same : new ≡ bound_branch bs n (in_place m0 call c) =
         is ∙ ap₂ shape b2 gs
-        ∙ sym (entered-bound bs n (branch_of m0) (goal_in m0.world.heap call.goal.now) (rest_of m0 call.goal.now) (length m0.saved) c (all_read m1.world.heap body)) in
-        tried-by modes inputs ∙ fits.fits (in_place m0 m1.world.heap call c body) ∙ ap Fits (sym same)
+        ∙ sym (entered-bound bs n (branch_of m0) (goal_in m0.world.heap call.goal.now) (rest_of m0 call.goal.now) (length m0.saved) c (instance_for m0 call c).body) in
+        tried-by modes inputs ∙ fits.fits (in_place m0 call c) ∙ ap Fits (sym same)
 
 -- an alternative that was possible before is possible after
 pub keeps-both : (w0 w1 w2 : World) (a : Saved) (saved : List Saved) → AllSaved w0 (a ∷ saved) → Grows w0.heap w1.heap [] [] → LeavesRest w0 w1 → Growing w1.heap w2.heap → LeavesRest w1 w2 → Keeps a.mark w0 w2
@@ -204,15 +227,25 @@ first-same m m' f w n h = record {
   later = omega (arith, n, h.later);
 }
 
--- the branch in which a clause's body was put before the other goals
-abbrev pub with_body : World → (first : ℕ) → Frame → (barrier : ℕ) → List TermId → Choice → Branch
-with_body w n f barrier ts choice = record (branch_in w n) {
-  goals = map (λ t. record (goal_in w.heap f) { barrier = barrier; term = t }) (all_read w.heap ts) ++ map (goal_in w.heap) (chain w.frames f.next);
-  path = choice ∷ w.path;
-}
+-- the first goal stays through the making of a head, its unification, and the making of an alternative
+pub first-after : (m0 m1 m2 m3 : Machine) (f : Frame) → IsSound m0.world.heap → m1.first ≡ m0.first → Grows m0.world.heap m1.world.heap [] [] → LeavesRest m0.world m1.world
+    → IsSound m1.world.heap → m2.first ≡ m1.first → Growing m1.world.heap m2.world.heap → LeavesRest m1.world m2.world → m3.world ≡ m2.world → m3.first ≡ m2.first → IsFirst m0 f → IsFirst m3 f
+first-after m0 m1 m2 m3 f sound0 one grows1 rest1 sound1 two grows2 rest2 world three first =
+    first-same m2 m3 f world three (first-grown m1 m2 f two sound1 grows2 rest2 (first-grown m0 m1 f one sound0 (no-notes m0.world.heap m1.world.heap grows1) rest1 first))
 
-pub body-same : (m m' : Machine) (f : Frame) (barrier barrier' : ℕ) (ts : List TermId) (choice : Choice) → m'.world ≡ m.world → m'.first ≡ m.first → barrier' ≡ barrier → with_body m'.world m'.first f barrier' ts choice ≡ with_body m.world m.first f barrier ts choice
-body-same m m' f barrier barrier' ts choice w n e = λ i. with_body (w i) (n i) f (e i) ts choice
+-- another list of terms, or another machine with the same world
+pub terms-same : (m m' : Machine) (f : Frame) (barrier barrier' : ℕ) (ts ts' : List Term) (choice : Choice) → m'.world ≡ m.world → m'.first ≡ m.first → barrier' ≡ barrier → ts' ≡ ts
+    → with_terms (branch_of m') (goal_in m'.world.heap f) (rest_of m' f) barrier' ts' choice ≡ with_terms (branch_of m) (goal_in m.world.heap f) (rest_of m f) barrier ts choice
+terms-same m m' f barrier barrier' ts ts' choice w n e r = λ i.
+    with_terms (branch_in (w i) (n i)) (goal_in (w i).heap f) (map (goal_in (w i).heap) (chain (w i).frames f.next)) (e i) (r i) choice
+
+-- another machine with the same branch
+pub terms-later : (m m' : Machine) (f : Frame) (barrier : ℕ) (ts : List Term) (choice : Choice) → IsFirst m f → IsFirst m' f → branch_of m' ≡ branch_of m
+    → with_terms (branch_of m') (goal_in m'.world.heap f) (rest_of m' f) barrier ts choice ≡ with_terms (branch_of m) (goal_in m.world.heap f) (rest_of m f) barrier ts choice
+terms-later m m' f barrier ts choice first first' b =
+    let goal = first-is m' f (branch_of m) (goal_in m.world.heap f) (rest_of m f) first' b (goals-are m f first) in
+    let rest = rest-is m' f (branch_of m) (goal_in m.world.heap f) (rest_of m f) first' b (goals-are m f first) in
+    λ i. with_terms (b i) (goal i) (rest i) barrier ts choice
 
 -- what holds of each clause holds of the next one
 pub each-clause : (P : Later → Type 0) → ((i : ℕ) → P (Clauses i)) → (o : Option ℕ) → IfSome (clauses_from o) P

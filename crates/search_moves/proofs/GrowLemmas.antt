@@ -9,7 +9,7 @@ use Rattle.level_terms.proofs.ValidLemmas.{growth_keeps_readings}
 use Rattle.beta_fragment.specs.Names.{names}
 use Rattle.level_terms.proofs.ReadLemmas.{valid-below}
 use Rattle.level_terms.specs.declared.node.TermId.{TermId}
-use Rattle.pattern_unify.specs.Answers.{AnswersTrue, ReadsUnder}
+use Rattle.pattern_unify.specs.Answers.{ReadsUnder}
 use Rattle.pattern_unify.proofs.KeptLemmas.{grown-nodes}
 use Rattle.search_moves.specs.declared.frame.Mark.{Mark}
 use Rattle.beta_fragment.specs.declared.answer.UnifyStop.{UnifyStop}
@@ -22,7 +22,8 @@ use Rattle.ref_terms.specs.unification.Problem.{Problem}
 use Rattle.search_moves.specs.declared.frame.Frame.{Frame}
 use Rattle.search_moves.specs.declared.frame.Saved.{Saved}
 use Rattle.hyp_clause.proofs.HypLemmas.{hyps-read}
-use Rattle.search_moves.specs.World.{World, chain, IsContextAt, AllFrames, IsWithin, IsFine}
+use Rattle.suspend.specs.Store.{stored}
+use Rattle.search_moves.specs.World.{World, chain, IsContextAt, AllFrames, AllConstraints, IsWithin, IsFine}
 use Rattle.search_moves.specs.Reading.{goal_in, branch_in}
 use Rattle.search_moves.specs.Saved.{AllSaved, Keeps, KeepsNewest}
 use Rattle.search_moves.specs.Moves.{Growing, LeavesRest}
@@ -32,6 +33,7 @@ use Rattle.search_moves.specs.Machine.{Machine, IsFirst, GoesOnSo}
 use Rattle.search_moves.proofs.WorldLemmas.{growth-keeps}
 use Rattle.search_moves.proofs.OwnLemmas.{context-grown}
 use Rattle.search_moves.proofs.FrameLemmas.{valid-grown, all-valid-grown, frames-grown}
+use Rattle.search_moves.proofs.ConstraintLemmas.{constraints-grown}
 use Rattle.search_moves.proofs.ReadingLemmas.{grown-reads, unified-reads}
 
 pub grow-keeps : (w w' : World) (saved : List Saved) → Growing w.heap w'.heap → LeavesRest w w' → AllSaved w saved → KeepsNewest saved w w'
@@ -44,6 +46,8 @@ grow-fine w w' first sound g r fine = record {
   there = omega (arith, fine.there, ap length r.frames);
   query = subst (λ ts. AllValidAt w'.heap ts 0) (sym r.query) (all-valid-grown w.heap w'.heap g.before g.after 0 sound g.grows w.query fine.query);
   code = omega (arith, fine.code, r.base, grown-nodes w.heap w'.heap g.before g.after g.grows);
+  constraints = subst (AllConstraints w'.heap) (sym r.store.constraints) (constraints-grown w.heap w'.heap g.before g.after sound g.grows (stored w.log) fine.constraints);
+  keyed = r.keyed fine.keyed;
 }
 
 pub no-notes : (g h : Graph) → Grows g h [] [] → Growing g h
@@ -132,6 +136,7 @@ fitted-machine mark depth ms hs ts old new long fine e r h =
     let under : ReadsUnder old.world.heap new.world.heap q = record { readings = h.readings; variables = refl } in
     record {
       made = h.made;
+      built = h.built;
       fits = λ b. made-at old.world.heap mark depth ms hs ts b long ∙ h.fits b;
       branch = ap (branch_in new.world) e ∙ unified-reads old.world new.world old.first q fine r under;
       readings = h.readings;

@@ -7,9 +7,10 @@ use Rattle.beta_fragment.specs.Names.{names}
 use Rattle.beta_fragment.specs.HeadForm.{all_read, AllValidAt}
 use Rattle.beta_fragment.specs.declared.answer.UnifyStop.{UnifyStop}
 use Rattle.beta_fragment.specs.declared.answer.UnifyStop.TheVariants.{Fault, Memory}
-use Rattle.level_terms.proofs.ReadLemmas.{valid-below}
+use Rattle.level_terms.proofs.ReadLemmas.{valid-below, read-built}
 use Rattle.pattern_unify.specs.Answers.{ReadsUnder, AnswersTrue, AnswersFalse, StopsSo}
 use Rattle.pattern_unify.proofs.KeptLemmas.{grown-nodes}
+use Rattle.ref_terms.specs.ending.Progress.{AreBuilt}
 use Rattle.ref_terms.specs.terms.Term.{Term}
 use Rattle.ref_terms.specs.unification.Problem.{Problem, Equation, Binding, Solved}
 use Rattle.ref_terms.specs.unification.Unification.{unify}
@@ -18,6 +19,7 @@ use Rattle.ref_terms.specs.search.Resolve.{Fits, Breaks, equations_at, matched, 
 use Rattle.search_moves.specs.Moves.{Growing}
 use Rattle.search_moves.specs.Solving.{problem_of_all}
 use Rattle.search_moves.specs.Matching.{tried_at, HeadFits, HeadClashes, HeadStops}
+use Rattle.search_moves.proofs.BuiltValues.{values-append, unify-built}
 use Rattle.search_moves.proofs.SolveLemmas.{bound-append}
 
 -- bindings on the equations of arguments
@@ -36,6 +38,18 @@ pub nodes-bound : (g h : Graph) (bs : List Binding) (depth : ℕ) → ((t : ℕ)
 nodes-bound g h bs depth e [] v = refl
 nodes-bound g h bs depth e (t ∷ ts) v =
     ap₂ (λ (x : Term) (xs : List Term). x ∷ xs) (e t.index names (valid-below g t.index depth v.0)) (nodes-bound g h bs depth e ts v.1)
+
+-- what nodes read as is built
+equations-built : (g : Graph) (mode : Bool) (depth : ℕ) (ms : List Bool) (hs ts : List TermId) → AreBuilt (equations_at mode depth ms (all_read g hs) (all_read g ts))
+equations-built g mode depth [] hs ts = tt
+equations-built g mode depth (true ∷ ms) [] ts = tt
+equations-built g mode depth (false ∷ ms) [] ts = tt
+equations-built g mode depth (true ∷ ms) (h ∷ hs) [] = tt
+equations-built g mode depth (false ∷ ms) (h ∷ hs) [] = tt
+equations-built g true depth (true ∷ ms) (h ∷ hs) (t ∷ ts) = ((read-built g h.index names, read-built g t.index names), equations-built g true depth ms hs ts)
+equations-built g false depth (true ∷ ms) (h ∷ hs) (t ∷ ts) = equations-built g false depth ms hs ts
+equations-built g true depth (false ∷ ms) (h ∷ hs) (t ∷ ts) = equations-built g true depth ms hs ts
+equations-built g false depth (false ∷ ms) (h ∷ hs) (t ∷ ts) = ((read-built g h.index names, read-built g t.index names), equations-built g false depth ms hs ts)
 
 module _ (mark depth : ℕ) (ms : List Bool) (hs ts : List TermId) (g : Graph) (hs-valid : AllValidAt g hs depth) (ts-valid : AllValidAt g ts depth) where
   module _ (h : Graph) (q : Problem) (solved : unify mark (problem_of_all g true depth ms hs ts) ≡ Solved q) (under : ReadsUnder g h q) where
@@ -61,8 +75,11 @@ module _ (mark depth : ℕ) (ms : List Bool) (hs ts : List TermId) (g : Graph) (
     pub outputs-fit : (new : Graph) → Growing g h → AnswersTrue 0 h new (problem_of_all h false depth ms hs ts) → HeadFits mark depth ms hs ts g new
     outputs-fit new grows (r, solved', under') =
         let more = grown-nodes g h grows.before grows.after grows.grows in
+        let values = unify-built mark (problem_of_all g true depth ms hs ts) q (equations-built g true depth ms hs ts) tt solved in
+        let values' = unify-built 0 (problem_of_all h false depth ms hs ts) r (equations-built h false depth ms hs ts) tt solved' in
         record {
           made = r.bindings ++ q.bindings;
+          built = values-append r.bindings q.bindings values' values;
           fits = λ b. then-outputs b ∙ ap (unified b q.bindings) solved' ∙ ap (λ n. Fits (bound_branch (r.bindings ++ q.bindings) n b)) (sym under'.variables);
           readings = λ t env k. under'.readings t env (omega (arith, k, more)) ∙ ap (bound r.bindings) (reads t env k) ∙ sym (bound-append r.bindings q.bindings (read g t env));
         }

@@ -26,8 +26,8 @@ cut-keeps w w' n [] e low high h = tt
 cut-keeps w w' n (a ∷ older) e low high h =
     let cut = oldest-oldest a.mark.frames n w.frames low high in
     subst (λ z. Keeps a.mark w z) (sym e) (record {
-      within = record { heap = h.0.within.heap; frames = omega (arith, low, oldest-length n w.frames high); path = h.0.within.path };
-      same = λ i. record { heap = heap.undone a.mark.heap w.heap; frames = cut i; path = oldest a.mark.path w.path; query = w.query; base = w.base };
+      within = record { heap = h.0.within.heap; frames = omega (arith, low, oldest-length n w.frames high); path = h.0.within.path; log = h.0.within.log };
+      same = λ i. record { heap = heap.undone a.mark.heap w.heap; frames = cut i; path = oldest a.mark.path w.path; log = oldest a.mark.store.events w.log; query = w.query; base = w.base };
     })
 
 pub cut-fine : (w w' : World) (n first next : ℕ) → w' ≡ record w { frames = oldest n w.frames } → next ≤ n → n ≤ length w.frames → IsFine w first → IsFine w' next
@@ -36,6 +36,8 @@ cut-fine w w' n first next e low high fine = subst (λ z. IsFine z next) (sym e)
   there = omega (arith, low, oldest-length n w.frames high);
   query = fine.query;
   code = fine.code;
+  constraints = fine.constraints;
+  keyed = fine.keyed;
 })
 
 pub cut-reads : (w w' : World) (n first next : ℕ) → w' ≡ record w { frames = oldest n w.frames } → next ≤ n → n ≤ length w.frames → branch_in w' next ≡ with_goals (map (goal_in w.heap) (chain w.frames next)) (branch_in w first)
@@ -49,8 +51,8 @@ push-keeps w w' f [] e h = tt
 push-keeps w w' f (a ∷ older) e h =
     let cut = oldest-cons f w.frames a.mark.frames h.0.within.frames in
     subst (λ z. Keeps a.mark w z) (sym e) (record {
-      within = record { heap = h.0.within.heap; frames = omega (arith, h.0.within.frames); path = h.0.within.path };
-      same = λ i. record { heap = heap.undone a.mark.heap w.heap; frames = cut i; path = oldest a.mark.path w.path; query = w.query; base = w.base };
+      within = record { heap = h.0.within.heap; frames = omega (arith, h.0.within.frames); path = h.0.within.path; log = h.0.within.log };
+      same = λ i. record { heap = heap.undone a.mark.heap w.heap; frames = cut i; path = oldest a.mark.path w.path; log = oldest a.mark.store.events w.log; query = w.query; base = w.base };
     })
 
 pub push-fine : (w w' : World) (f : Frame) (n : ℕ) → w' ≡ record w { frames = f ∷ w.frames } → n ≡ suc (length w.frames) → IsFine w f.next → IsValid w.heap f.term.index f.depth → IsContextAt w.heap f.depth f.context → IsFine w' n
@@ -59,6 +61,8 @@ push-fine w w' f n e k fine v x = subst (λ z. IsFine z n) (sym e) (record {
   there = omega (arith, k);
   query = fine.query;
   code = fine.code;
+  constraints = fine.constraints;
+  keyed = fine.keyed;
 })
 
 -- the old goals are there still
@@ -68,6 +72,8 @@ push-old w w' f first e fine v x h = subst (λ z. IsFine z first) (sym e) (recor
   there = omega (arith, fine.there);
   query = fine.query;
   code = fine.code;
+  constraints = fine.constraints;
+  keyed = fine.keyed;
 })
 
 pub push-reads : (w w' : World) (f : Frame) (n : ℕ) → w' ≡ record w { frames = f ∷ w.frames } → n ≡ suc (length w.frames) → branch_in w' n ≡ with_goals (goal_in w.heap f ∷ map (goal_in w.heap) (chain w.frames f.next)) (branch_in w f.next)
@@ -82,12 +88,12 @@ path-keeps w w' k [] e h = tt
 path-keeps w w' k (a ∷ older) e h =
     let cut = oldest-cons k w.path a.mark.path h.0.within.path in
     subst (λ z. Keeps a.mark w z) (sym e) (record {
-      within = record { heap = h.0.within.heap; frames = h.0.within.frames; path = omega (arith, h.0.within.path) };
-      same = λ i. record { heap = heap.undone a.mark.heap w.heap; frames = oldest a.mark.frames w.frames; path = cut i; query = w.query; base = w.base };
+      within = record { heap = h.0.within.heap; frames = h.0.within.frames; path = omega (arith, h.0.within.path); log = h.0.within.log };
+      same = λ i. record { heap = heap.undone a.mark.heap w.heap; frames = oldest a.mark.frames w.frames; path = cut i; log = oldest a.mark.store.events w.log; query = w.query; base = w.base };
     })
 
 pub path-fine : (w w' : World) (k : Choice) (first : ℕ) → w' ≡ record w { path = k ∷ w.path } → IsFine w first → IsFine w' first
-path-fine w w' k first e fine = subst (λ z. IsFine z first) (sym e) (record { frames = fine.frames; there = fine.there; query = fine.query; code = fine.code })
+path-fine w w' k first e fine = subst (λ z. IsFine z first) (sym e) (record { frames = fine.frames; there = fine.there; query = fine.query; code = fine.code; constraints = fine.constraints; keyed = fine.keyed })
 
 -- an alternative is made
 

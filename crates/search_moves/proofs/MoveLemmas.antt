@@ -1,5 +1,6 @@
 -- What moves come to.
-use Rattle.std.proofs.Common.{◌≡◌, List, [], ◌∷◌, map, Some, None, Result, Ok, Err, IfOk, refl, sym, ap, ap₂, ◌∙◌, subst}
+use Rattle.std.proofs.Common.{◌≡◌, List, [], ◌∷◌, length, map, Some, None, Result, Ok, Err, IfOk, refl, sym, ap, ap₂, ◌∙◌, subst}
+use Rattle.std.proofs.lemmas.List.{length-map}
 use Rattle.level_terms.specs.Reading.{read}
 use Rattle.beta_fragment.specs.Names.{names}
 use Rattle.ref_terms.specs.search.Formula.{GoalKind, goal_kind}
@@ -7,10 +8,10 @@ use Rattle.ref_terms.specs.search.GoalMove.{kind_move}
 use Rattle.ref_terms.specs.unification.Unification.{unify}
 use Rattle.ref_terms.specs.declared.fault.Fault.{Fault}
 use Rattle.ref_terms.specs.search.Program.{Program}
-use Rattle.ref_terms.specs.search.Branch.{Goal, Branch}
+use Rattle.ref_terms.specs.search.Branch.{Goal, Constraint, Branch}
 use Rattle.ref_terms.specs.search.BranchMove.{fails}
 use Rattle.ref_terms.specs.search.State.{Alternative, Move, Running, Ended, Failure, Answered, goes_on, stops, faults}
-use Rattle.ref_terms.specs.search.Next.{next, retry, by_goal, by_rule}
+use Rattle.ref_terms.specs.search.Next.{next, retry, by_goal, by_rule, by_waking, woken}
 use Rattle.ref_terms.specs.search.FirstRule.{first_firing}
 use Rattle.search_moves.specs.declared.frame.Frame.{Frame}
 use Rattle.search_moves.specs.declared.machine.Phase.{Phase}
@@ -18,7 +19,8 @@ use Rattle.search_moves.specs.declared.machine.Phase.TheVariants as phase
 use Rattle.search_moves.specs.declared.machine.Event.{Event}
 use Rattle.search_moves.specs.declared.machine.Event.TheVariants as event
 use Rattle.search_moves.specs.World.{chain}
-use Rattle.search_moves.specs.Reading.{goal_in}
+use Rattle.search_moves.specs.Reading.{goal_in, saved_in}
+use Rattle.search_moves.specs.Waking.{up_in, HasWoken}
 use Rattle.search_moves.specs.Machine.{Machine, branch_of, alternatives_of, state_at, state_of, rest_of, move_of, IsFirst, HasMoved}
 
 pub if-ok : {T E : Type 0} (r : Result T E) (A B : T → Type 0) → ((t : T) → A t → B t) → IfOk r A → IfOk r B
@@ -44,13 +46,33 @@ broken p m f e = record { event = refl; state = ap (state_at p m) e }
 pub moved-as : (p : Program) (x y : Move) (e : Event) (m : Machine) → x ≡ y → HasMoved p y e m → HasMoved p x e m
 moved-as p x y e m same h = subst (λ z. HasMoved p z e m) (sym same) h
 
--- the move of a machine that runs, where there are no rules
-pub next-is : (p : Program) (m : Machine) → p.rules ≡ [] → m.phase ≡ phase.Running
+-- the move of a machine that runs, where there are no rules and no constraint is awake
+pub next-is : (p : Program) (m : Machine) → p.rules ≡ [] → up_in (branch_of m) ≡ [] → m.phase ≡ phase.Running
     → next unify p (state_of p m) ≡ by_goal unify p (branch_of m) (alternatives_of p m) (map (goal_in m.world.heap) (chain m.world.frames m.first))
 unfolding next
-next-is p m none e =
+next-is p m none asleep e =
     ap (λ (k : Phase). next unify p (state_at p m k)) e
+    ∙ ap (by_waking unify p (branch_of m) (alternatives_of p m)) asleep
     ∙ ap (λ rs. by_rule unify p (branch_of m) (alternatives_of p m) (first_firing unify (branch_of m) 0 rs)) none
+
+-- where constraints are awake
+next-wakes : (p : Program) (m : Machine) (c : Constraint) (cs : List Constraint) → up_in (branch_of m) ≡ c ∷ cs → m.phase ≡ phase.Running
+    → next unify p (state_of p m) ≡ goes_on (woken (branch_of m) (length (alternatives_of p m)) (c ∷ cs)) (alternatives_of p m)
+unfolding next
+next-wakes p m c cs up e =
+    ap (λ (k : Phase). next unify p (state_at p m k)) e ∙ ap (by_waking unify p (branch_of m) (alternatives_of p m)) up
+
+pub woken-moved : (p : Program) (old new : Machine) → old.phase ≡ phase.Running → new.phase ≡ phase.Running → HasWoken old new → alternatives_of p new ≡ alternatives_of p old → HasMoved p (next unify p (state_of p old)) event.Moved new
+woken-moved p old new running runs h others =
+    moved-as p (next unify p (state_of p old)) (goes_on (woken (branch_of old) (length (alternatives_of p old)) (h.first ∷ h.others)) (alternatives_of p old)) event.Moved new
+    (next-wakes p old h.first h.others h.up running)
+    (moved p new (woken (branch_of old) (length (alternatives_of p old)) (h.first ∷ h.others)) (alternatives_of p old) runs
+    (h.branch ∙ ap (λ n. woken (branch_of old) n (h.first ∷ h.others)) (sym (length-map old.saved (saved_in p old.world)))) others)
+
+-- a machine that runs stands for the same state where its branch and its alternatives are the same
+pub same-state : (p : Program) (m m' : Machine) → m.phase ≡ phase.Running → m'.phase ≡ phase.Running → branch_of m' ≡ branch_of m → alternatives_of p m' ≡ alternatives_of p m → state_of p m' ≡ state_of p m
+same-state p m m' e e' branch others =
+    ap (state_at p m') e' ∙ ap₂ (λ (b : Branch) (xs : List Alternative). Running b xs) branch others ∙ sym (ap (state_at p m) e)
 
 pub next-answered : (p : Program) (m : Machine) → m.phase ≡ phase.Answered → next unify p (state_of p m) ≡ retry unify p (alternatives_of p m)
 unfolding next
@@ -68,12 +90,12 @@ pub next-broken : (p : Program) (m : Machine) (f : Fault) → m.phase ≡ phase.
 unfolding next
 next-broken p m f e = ap (λ (k : Phase). next unify p (state_at p m k)) e
 
-pub answered : (p : Program) (old new : Machine) → p.rules ≡ [] → old.phase ≡ phase.Running → chain old.world.frames old.first ≡ [] → new ≡ record old { phase = phase.Answered }
+pub answered : (p : Program) (old new : Machine) → p.rules ≡ [] → up_in (branch_of old) ≡ [] → old.phase ≡ phase.Running → chain old.world.frames old.first ≡ [] → new ≡ record old { phase = phase.Answered }
     → HasMoved p (next unify p (state_of p old)) event.Answer new
-answered p old new none e empty same =
+answered p old new none asleep e empty same =
     let last : Move = record { event = Answered (branch_of old); state = Ended (Some (branch_of old)) (alternatives_of p old) } in
     moved-as p (next unify p (state_of p old)) last event.Answer new
-    (next-is p old none e ∙ ap (λ fs. by_goal unify p (branch_of old) (alternatives_of p old) (map (goal_in old.world.heap) fs)) empty)
+    (next-is p old none asleep e ∙ ap (λ fs. by_goal unify p (branch_of old) (alternatives_of p old) (map (goal_in old.world.heap) fs)) empty)
     (record { event = ap (λ m. Answered (branch_of m)) same; state = ap (state_of p) same })
 
 -- a fault
@@ -87,14 +109,14 @@ abbrev tail : List Goal → List Goal
 tail [] = []
 tail (x ∷ xs) = xs
 
-pub goal-moved : (p : Program) (m0 m1 new : Machine) (f : Frame) (kind : GoalKind) (e : Event) → p.rules ≡ [] → m0.phase ≡ phase.Running → IsFirst m0 f → IsFirst m1 f
+pub goal-moved : (p : Program) (m0 m1 new : Machine) (f : Frame) (kind : GoalKind) (e : Event) → p.rules ≡ [] → up_in (branch_of m0) ≡ [] → m0.phase ≡ phase.Running → IsFirst m0 f → IsFirst m1 f
     → goal_in m1.world.heap f ≡ goal_in m0.world.heap f → branch_of m1 ≡ branch_of m0 → alternatives_of p m1 ≡ alternatives_of p m0
     → goal_kind (read m1.world.heap f.term.index names) ≡ kind → HasMoved p (move_of p m1 f kind) e new → HasMoved p (next unify p (state_of p m0)) e new
-goal-moved p m0 m1 new f kind e none running first first' goal branch others is h =
+goal-moved p m0 m1 new f kind e none asleep running first first' goal branch others is h =
     let rest : rest_of m1 f ≡ rest_of m0 f =
     ap tail (sym (ap (map (goal_in m1.world.heap)) first'.goals)) ∙ ap (λ b. tail b.goals) branch ∙ ap tail (ap (map (goal_in m0.world.heap)) first.goals) in
     let here : goal_kind (read m0.world.heap f.term.index names) ≡ kind = ap (λ g. goal_kind g.term) (sym goal) ∙ is in
-    let start = next-is p m0 none running ∙ ap (λ fs. by_goal unify p (branch_of m0) (alternatives_of p m0) (map (goal_in m0.world.heap) fs)) first.goals in
+    let start = next-is p m0 none asleep running ∙ ap (λ fs. by_goal unify p (branch_of m0) (alternatives_of p m0) (map (goal_in m0.world.heap) fs)) first.goals in
     let same : kind_move unify p (branch_of m0) (goal_in m0.world.heap f) (rest_of m0 f) (alternatives_of p m0) (goal_kind (read m0.world.heap f.term.index names)) ≡ move_of p m1 f kind =
     ap (kind_move unify p (branch_of m0) (goal_in m0.world.heap f) (rest_of m0 f) (alternatives_of p m0)) here
     ∙ sym (ap (λ b. kind_move unify p b (goal_in m1.world.heap f) (rest_of m1 f) (alternatives_of p m1) kind) branch

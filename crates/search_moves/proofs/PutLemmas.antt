@@ -1,13 +1,10 @@
 -- Goals that are put one by one before the others.
-use Rattle.std.proofs.Common.{◌≡◌, ℕ, zero, suc, ◌<◌, ◌≤◌, ◌-◌, List, [], ◌∷◌, ◌++◌, length, map, drop, slice_index_or, refl, sym, ap, ap₂, ◌∙◌, arith}
-use Rattle.std.proofs.Math.Seq.{drop-length}
-use Rattle.level_terms.specs.Reading.{read}
+use Rattle.std.proofs.Common.{◌≡◌, ℕ, zero, suc, ◌<◌, ◌≤◌, List, [], ◌∷◌, ◌++◌, length, map, drop, slice_index_or, arith}
 use Rattle.level_terms.specs.Valid.{IsValid}
 use Rattle.level_terms.specs.Graph.{Graph}
 use Rattle.level_terms.specs.declared.node.TermId.{TermId}
-use Rattle.beta_fragment.specs.Names.{names}
 use Rattle.beta_fragment.specs.HeadForm.{all_read, AllValidAt}
-use Rattle.ref_terms.specs.search.Branch.{Goal, Branch, with_goals}
+use Rattle.ref_terms.specs.search.Branch.{Goal, with_goals}
 use Rattle.search_moves.specs.declared.frame.Frame.{Frame}
 use Rattle.search_moves.specs.World.{code_nodes}
 use Rattle.search_moves.specs.Reading.{goal_in}

@@ -1,5 +1,5 @@
 -- What `pi` and `sigma` come to.
-use Rattle.std.proofs.Common.{◌≡◌, ℕ, suc, length, ◌+◌, List, [], ◌∷◌, map, sym, ap, ap₂, ◌∙◌, arith}
+use Rattle.std.proofs.Common.{◌≡◌, ℕ, suc, length, ◌+◌, List, ◌∷◌, map, ap, ap₂, ◌∙◌, arith}
 use Rattle.level_terms.specs.Reading.{read}
 use Rattle.beta_fragment.specs.Names.{names}
 use Rattle.ref_terms.specs.terms.Apply.{apply}

@@ -1,35 +1,30 @@
 -- The reading of the present branch.
 use Rattle.std.proofs.Common.{◌≡◌, ℕ, List, [], ◌∷◌, map, length, refl, sym, ap, ◌∙◌}
-use Rattle.level_terms.specs.declared.node.TermId.{TermId}
-use Rattle.level_terms.specs.Graph.{Graph}
 use Rattle.level_terms.specs.Growth.{Grows}
 use Rattle.level_terms.specs.Reading.{read}
 use Rattle.level_terms.specs.Sound.{IsSound}
 use Rattle.level_terms.specs.Valid.{IsValid}
 use Rattle.level_terms.proofs.ValidLemmas.{growth_keeps_readings}
 use Rattle.beta_fragment.specs.Names.{names}
-use Rattle.beta_fragment.specs.HeadForm.{all_read, AllValidAt}
+use Rattle.beta_fragment.specs.HeadForm.{all_read}
 use Rattle.level_terms.proofs.ReadLemmas.{valid-below}
 use Rattle.beta_fragment.proofs.HeadLemmas.{read-grown_all}
 use Rattle.pattern_unify.specs.Answers.{ReadsUnder}
-use Rattle.ref_terms.specs.terms.Term.{Term}
-use Rattle.ref_terms.specs.unification.Problem.{Problem, Binding}
-use Rattle.ref_terms.specs.search.Branch.{bound, bound_goal, bound_branch}
+use Rattle.ref_terms.specs.unification.Problem.{Problem}
+use Rattle.ref_terms.specs.search.Branch.{bound, bound_goal, bound_constraint, bound_branch}
 use Rattle.search_moves.specs.declared.frame.Frame.{Frame}
 use Rattle.hyp_clause.proofs.HypLemmas.{hyps-read}
 use Rattle.hyp_clause.proofs.LawLemmas.{hyps-bound}
 use Rattle.search_moves.specs.World.{World, chain, IsContextAt, IsFine}
 use Rattle.search_moves.specs.Moves.{LeavesRest}
-use Rattle.search_moves.specs.Reading.{goal_in, branch_in}
+use Rattle.suspend.specs.Store.{stored}
+use Rattle.search_moves.specs.Reading.{goal_in, constraint_in, firing_of, branch_in}
+use Rattle.search_moves.proofs.ConstraintLemmas.{all-bound, constraints-read, constraints-bound}
 use Rattle.search_moves.proofs.FrameLemmas.{chain-agrees}
 
 map-map : {A B C : Type 0} (x : B → C) (y : A → B) (ts : List A) → map x (map y ts) ≡ map (λ t. x (y t)) ts
 map-map x y [] = refl
 map-map {A} {B} {C} x y (t ∷ ts) = ap (λ (zs : List C). x (y t) ∷ zs) (map-map x y ts)
-
-all-bound : (g h : Graph) (bs : List Binding) (d : ℕ) → ((t : ℕ) → IsValid g t d → read h t names ≡ bound bs (read g t names)) → (ts : List TermId) → AllValidAt g ts d → all_read h ts ≡ map (bound bs) (all_read g ts)
-all-bound g h bs d e [] v = refl
-all-bound g h bs d e (t ∷ ts) v = ap (λ (x : Term). x ∷ all_read h ts) (e t.index v.0) ∙ ap (λ (xs : List Term). bound bs (read g t.index names) ∷ xs) (all-bound g h bs d e ts v.1)
 
 pub unified-reads : (w w' : World) (first : ℕ) (q : Problem) → IsFine w first → LeavesRest w w'
     → ReadsUnder w.heap w'.heap q → branch_in w' first ≡ bound_branch q.bindings q.next_var (branch_in w first)
@@ -45,7 +40,9 @@ unified-reads w w' first q fine r under =
     ∙ chain-agrees g (goal_in h) (λ x. bound_goal q.bindings (goal_in g x)) same w.frames first fine.frames
     ∙ sym (map-map (bound_goal q.bindings) (goal_in g) (chain w.frames first)) in
     let query : all_read h w'.query ≡ map (bound q.bindings) (all_read g w.query) = ap (all_read h) r.query ∙ all-bound g h q.bindings 0 (λ t v. reads t 0 v) w.query fine.query in
-    λ i. record { goals = goals i; store = []; fired = []; query = query i; next_var = under.variables i; declared = 0; path = r.path i }
+    let store : map (constraint_in h) (stored w'.log) ≡ map (bound_constraint q.bindings) (map (constraint_in g) (stored w.log)) =
+    ap (map (constraint_in h)) r.store.constraints ∙ constraints-bound g h q.bindings reads (stored w.log) fine.constraints in
+    λ i. record { goals = goals i; store = store i; fired = map firing_of (r.store.firings_are i); query = query i; next_var = under.variables i; declared = r.store.additions i; path = r.path i }
 
 pub grown-reads : (w w' : World) (first : ℕ) → IsSound w.heap → IsFine w first → LeavesRest w w'
     → Grows w.heap w'.heap [] [] → branch_in w' first ≡ record (branch_in w first) { next_var = length w'.heap.depths }
@@ -58,4 +55,6 @@ grown-reads w w' first sound fine r grows =
     let goals : map (goal_in h) (chain w'.frames first) ≡ map (goal_in g) (chain w.frames first) =
     ap (λ fs. map (goal_in h) (chain fs first)) r.frames ∙ chain-agrees g (goal_in h) (goal_in g) same w.frames first fine.frames in
     let query : all_read h w'.query ≡ all_read g w.query = ap (all_read h) r.query ∙ read-grown_all g h 0 sound grows w.query fine.query in
-    λ i. record { goals = goals i; store = []; fired = []; query = query i; next_var = length h.depths; declared = 0; path = r.path i }
+    let store : map (constraint_in h) (stored w'.log) ≡ map (constraint_in g) (stored w.log) =
+    ap (map (constraint_in h)) r.store.constraints ∙ constraints-read g h sound grows (stored w.log) fine.constraints in
+    λ i. record { goals = goals i; store = store i; fired = map firing_of (r.store.firings_are i); query = query i; next_var = length h.depths; declared = r.store.additions i; path = r.path i }

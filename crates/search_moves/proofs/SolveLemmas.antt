@@ -27,6 +27,7 @@ use Rattle.search_moves.specs.World.{World}
 use Rattle.search_moves.specs.Moves.{Growing, LeavesRest}
 use Rattle.search_moves.specs.Solving.{problem_of_all, IsSolving, IsUnderway}
 use Rattle.search_moves.proofs.FrameLemmas.{all-valid-grown}
+use Rattle.search_moves.proofs.RestLemmas.{leaves-refl, leaves-trans}
 use Rattle.ref_terms.specs.search.Sequence.{continued}
 use Rattle.ref_terms.proofs.unification.Sequence.{one-by-one}
 
@@ -167,9 +168,6 @@ none-left mode depth [] ts = refl
 none-left mode depth (true ∷ ms) ts = refl
 none-left mode depth (false ∷ ms) ts = refl
 
-rest-trans : (u v w : World) → LeavesRest u v → LeavesRest v w → LeavesRest u w
-rest-trans u v w a b = record { frames = b.frames ∙ a.frames; path = b.path ∙ a.path; query = b.query ∙ a.query; base = b.base ∙ a.base }
-
 module _ (mark : ℕ) (mode : Bool) (depth : ℕ) (ms : List Bool) (hs ts : List TermId) (w : World)
     (hs-valid : AllValidAt w.heap hs depth) (ts-valid : AllValidAt w.heap ts depth) (as-many : length hs ≡ length ts) where
   pub underway-starts : mark ≤ length w.heap.depths → IsUnderway mark mode depth ms hs ts w w 0
@@ -178,7 +176,7 @@ module _ (mark : ℕ) (mode : Bool) (depth : ℕ) (ms : List Bool) (hs ts : List
     args = ts-valid;
     first = first;
     solving = solving-starts mark mode depth ms hs ts w.heap;
-    rest = record { frames = refl; path = refl; query = refl; base = refl };
+    rest = leaves-refl w;
   }
 
   module _ (w1 : World) (i : ℕ) (u : IsUnderway mark mode depth ms hs ts w w1 i) (in-range : i < length ms) (there : i < length hs) where
@@ -225,7 +223,7 @@ module _ (mark : ℕ) (mode : Bool) (depth : ℕ) (ms : List Bool) (hs ts : List
       args = all-valid-grown w1.heap w2.heap g.before g.after depth sound g.grows ts u.args;
       first = omega (arith, u.first, ap length g.grows.depths, length-append w1.heap.depths g.grows.new_depths);
       solving = solving-goes mark mode depth ms hs ts w.heap w1.heap i (slice_index_or ms i false) head-at arg-at u.solving m-drop h-drop t-drop w2.heap e head-there arg-there g h;
-      rest = rest-trans w w1 w2 u.rest r;
+      rest = leaves-trans w w1 w2 u.rest r;
     }
 
     pub underway-clashes : slice_index_or ms i false ≡ mode → AnswersFalse mark (problem_of w1.heap head-at.index arg-at.index depth) → AnswersFalse mark (problem_of_all w.heap mode depth ms hs ts)

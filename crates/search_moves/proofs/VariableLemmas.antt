@@ -1,6 +1,6 @@
 -- A variable that has no value, under the names of a goal.
 use mathlib.Core.Path.{fun_ext}
-use Rattle.std.proofs.Common.{◌≡◌, ℕ, zero, suc, ◌+◌, List, [], ◌∷◌, map, refl, ap, ap₂, ◌∙◌, arith}
+use Rattle.std.proofs.Common.{◌≡◌, ℕ, zero, suc, ◌+◌, List, ◌∷◌, map, refl, ap, ap₂, ◌∙◌, arith}
 use Rattle.level_terms.specs.Reading.{levels}
 use Rattle.level_terms.specs.Values.{Value, IsVarOf}
 use Rattle.ref_terms.specs.terms.Term.{Term, At, Name, Var}

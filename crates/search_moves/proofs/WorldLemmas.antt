@@ -12,7 +12,7 @@ use Rattle.search_moves.specs.declared.frame.Mark.{Mark}
 use Rattle.search_moves.specs.World.{World, undone, mark_of, oldest, IsWithin}
 use Rattle.search_moves.specs.Saved.{Keeps}
 use Rattle.search_moves.specs.Moves.{LeavesRest}
-use Rattle.search_moves.proofs.ListLemmas.{oldest-length, oldest-all, oldest-oldest}
+use Rattle.search_moves.proofs.ListLemmas.{oldest-length, oldest-all, oldest-append, oldest-oldest}
 
 -- the earlier mark of two isn't past the heap either
 heap-below : (a b : HeapMark) (g : Graph) → heap.IsWithin b g → heap.IsWithin a (heap.undone b g) → (a.nodes ≤ b.nodes) × (a.variables ≤ b.variables) × (a.entries ≤ b.entries)
@@ -41,13 +41,15 @@ undone-twice a b w v u =
     let heap = heap-twice a.heap b.heap w.heap v.heap u.heap in
     let frames = oldest-oldest a.frames b.frames w.frames (omega (arith, u.frames, oldest-length b.frames w.frames v.frames)) v.frames in
     let path = oldest-oldest a.path b.path w.path (omega (arith, u.path, oldest-length b.path w.path v.path)) v.path in
-    λ i. record { heap = heap i; frames = frames i; path = path i; query = w.query; base = w.base }
+    let log = oldest-oldest a.store.events b.store.events w.log (omega (arith, u.log, oldest-length b.store.events w.log v.log)) v.log in
+    λ i. record { heap = heap i; frames = frames i; path = path i; log = log i; query = w.query; base = w.base }
 
 pub within-twice : (a b : Mark) (w : World) → IsWithin b w → IsWithin a (undone b w) → IsWithin a w
 within-twice a b w v u = record {
   heap = heap-within a.heap b.heap w.heap v.heap u.heap;
   frames = omega (arith, u.frames, v.frames, oldest-length b.frames w.frames v.frames);
   path = omega (arith, u.path, v.path, oldest-length b.path w.path v.path);
+  log = omega (arith, u.log, v.log, oldest-length b.store.events w.log v.log);
 }
 
 -- going back to now is nothing
@@ -56,10 +58,11 @@ undone-now w =
     let heap = growth.undo_now w.heap in
     let frames = oldest-all w.frames in
     let path = oldest-all w.path in
-    λ i. record { heap = heap i; frames = frames i; path = path i; query = w.query; base = w.base }
+    let log = oldest-all w.log in
+    λ i. record { heap = heap i; frames = frames i; path = path i; log = log i; query = w.query; base = w.base }
 
 pub within-now : (w : World) → IsWithin (mark_of w) w
-within-now w = record { heap = record { nodes = omega arith; variables = omega arith; entries = omega arith }; frames = omega arith; path = omega arith }
+within-now w = record { heap = record { nodes = omega arith; variables = omega arith; entries = omega arith }; frames = omega arith; path = omega arith; log = omega arith }
 
 -- what stays names nothing that is dropped, wherever going back leaves the same
 pub closed-same : (m : HeapMark) (g h : Graph) → heap.undone m h ≡ heap.undone m g → heap.IsClosed m g → heap.IsClosed m h
@@ -75,13 +78,15 @@ keeps-trans m u v w a b = record { within = b.within; same = b.same ∙ a.same }
 pub growth-keeps : (w w' : World) (s t : List Change) (m : Mark) → Grows w.heap w'.heap s t → LeavesRest w w' → IsWithin m w → Keeps m w w'
 growth-keeps w w' s t m g r v =
     let heap = growth.ignores_growth w.heap w'.heap s t m.heap g v.heap in
+    let log = ap (oldest m.store.events) r.later.is ∙ oldest-append r.later.more w.log m.store.events v.log in
     record {
       within = record {
         heap = growth-within w.heap w'.heap s t m.heap g v.heap;
         frames = omega (arith, v.frames, ap length r.frames);
         path = omega (arith, v.path, ap length r.path);
+        log = omega (arith, v.log, ap length r.later.is, length-append r.later.more w.log);
       };
-      same = λ i. record { heap = heap i; frames = oldest m.frames (r.frames i); path = oldest m.path (r.path i); query = r.query i; base = r.base i };
+      same = λ i. record { heap = heap i; frames = oldest m.frames (r.frames i); path = oldest m.path (r.path i); log = log i; query = r.query i; base = r.base i };
     }
   where
     growth-within : (g h : Graph) (s t : List Change) (m : HeapMark) → Grows g h s t → heap.IsWithin m g → heap.IsWithin m h

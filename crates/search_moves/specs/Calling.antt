@@ -1,5 +1,5 @@
 -- Calls of atoms, and the clauses that are tried.
-use Rattle.std.specs.Prelude.{◌≡◌, ℕ, ◌<◌, ◌≤◌, Bool, true, false, cond, nat_eq, suc, List, [], ◌∷◌, length, map, drop, replicate, slice_get, Option, Some, None, option_to_list, unwrap_or}
+use Rattle.std.specs.Prelude.{◌≡◌, ℕ, ◌<◌, ◌≤◌, Bool, true, false, cond, nat_eq, suc, List, [], ◌∷◌, length, map, drop, replicate, slice_get, Option, Some, None, unwrap_or}
 use Rattle.level_terms.specs.declared.node.TermId.{TermId}
 use Rattle.level_terms.specs.Graph.{Graph}
 use Rattle.level_terms.specs.Reading.{read}
@@ -11,9 +11,11 @@ use Rattle.ref_terms.specs.terms.Term.{Term, Con}
 use Rattle.ref_terms.specs.unification.Spine.{args_of, head_of}
 use Rattle.ref_terms.specs.unification.Problem.{Binding}
 use Rattle.ref_terms.specs.search.Program.{Program, Clause, headed_by, modes_of}
-use Rattle.ref_terms.specs.search.Instance.{ClauseInstance, clause_instance}
 use Rattle.ref_terms.specs.search.Branch.{Branch, bound, bound_branch}
 use Rattle.ref_terms.specs.search.Fault.{Judged, Good, Bad}
+use Rattle.clause_key.specs.declared.key.Key.{Key}
+use Rattle.clause_key.specs.declared.key.Key.TheVariants.{Any}
+use Rattle.clause_key.specs.Keys.{key_among}
 use Rattle.hyp_clause.specs.Hyps.{assumption_in}
 use Rattle.ref_terms.specs.search.Candidates.{program_candidates, call_fault}
 use Rattle.ref_terms.specs.search.State.{Candidate, of_program}
@@ -27,22 +29,10 @@ use Rattle.search_moves.specs.declared.frame.Later.{Later}
 use Rattle.search_moves.specs.declared.frame.Later.TheVariants.{Clauses}
 use Rattle.ref_terms.specs.declared.sym.Sym.{Sym}
 use Rattle.search_moves.specs.Reading.{goal_in, saved_in, later_of}
-use Rattle.search_moves.specs.declared.clauses.Instance.{Instance}
+use Rattle.search_moves.specs.Instances.{HaveBuiltValues}
 use Rattle.search_moves.specs.declared.call.Call.{Call}
 use Rattle.search_moves.specs.Machine.{Machine, branch_of, alternatives_of, rest_of, IsFirst}
 use Rattle.search_moves.specs.Matching.{tried_at}
-
--- an instance of a clause in the heap: these nodes are its head's arguments and its body, and its variables are the newest ones
-pub record IsMadeOf (instance : ClauseInstance) (depth : ℕ) (new : Graph) (hs ts : List TermId) : Type 0 where
-  pub heads : all_read new hs ≡ args_of instance.head
-  pub body : all_read new ts ≡ instance.body
-  pub variables : length new.depths ≡ instance.next_var
-  pub heads_valid : AllValidAt new hs depth
-  pub body_valid : AllValidAt new ts depth
-
--- a clause in the heap, at so many names, over new variables
-abbrev pub IsInstanceOf : Clause → (depth : ℕ) → (old new : Graph) → Instance → Type 0
-IsInstanceOf k depth old new made = IsMadeOf (clause_instance k depth (length old.depths)) depth new made.heads (option_to_list made.body)
 
 -- the clause with this number is the first one of a constant from a number on
 pub record IsFirstClause (ks : List Clause) (c from i : ℕ) : Type 0 where
@@ -76,6 +66,7 @@ tried_made g first_fresh depth ms hs ts b = cond (nat_eq (length hs) (length ts)
 -- the head fits: the present branch goes on under the bindings with which the reference tries any branch
 pub record HasFitted (first_fresh depth : ℕ) (ms : List Bool) (hs ts : List TermId) (old new : Machine) : Type 0 where
   pub made : List Binding
+  pub built : HaveBuiltValues made
   pub fits : (b : Branch) → tried_made old.world.heap first_fresh depth ms hs ts b ≡ Fits (bound_branch made (length new.world.heap.depths) b)
   pub branch : branch_of new ≡ bound_branch made (length new.world.heap.depths) (branch_of old)
   pub readings : (t : ℕ) (env : ℕ → Term) → t < length old.world.heap.nodes → read new.world.heap t env ≡ bound made (read old.world.heap t env)
@@ -148,9 +139,19 @@ abbrev pub ResolvedStops : Option (Judged Resolved) → UnifyStop → Type 0
 ResolvedStops r (Fault e) = r ≡ Some (Bad e)
 ResolvedStops r Memory = Unit {0}
 
--- the loop over the clauses has come to this one: those before it clash
-pub record IsTrying (p : Program) (m : Machine) (call : Call) (from : ℕ) (later : Option ℕ) : Type 0 where
-  pub at : ℕ
-  pub next : IsNextClause p.clauses call.pred.0 at later
+-- the key of a call: that of its key argument, where there are as many arguments as modes
+abbrev pub key_of_call : Graph → Call → Key
+key_of_call g call = cond (nat_eq (length call.args.now) (length call.inputs.now)) (key_among call.inputs.now (all_read g call.args.now)) Any
+
+-- the loop over the clauses has come to this one: those of the constant before it clash
+pub record IsTrying (p : Program) (m : Machine) (call : Call) (from i : ℕ) : Type 0 where
+  pub clause : Clause
+  pub here : slice_get p.clauses i ≡ Some clause
+  pub headed : headed_by call.pred.0 clause.head ≡ true
   pub same : HasInputs call (modes_of p call.pred.0)
-      → resolved_from m call.goal.now p.clauses call.pred.0 from (modes_of p call.pred.0) ≡ resolved_from m call.goal.now p.clauses call.pred.0 at (modes_of p call.pred.0)
+      → resolved_from m call.goal.now p.clauses call.pred.0 from (modes_of p call.pred.0) ≡ resolved_from m call.goal.now p.clauses call.pred.0 i (modes_of p call.pred.0)
+
+-- the loop is at this clause, if there is one; else all clash
+abbrev pub IsTryingNext : Program → Machine → Call → (from : ℕ) → Option ℕ → Type 0
+IsTryingNext p m call from None = HasInputs call (modes_of p call.pred.0) → resolved_from m call.goal.now p.clauses call.pred.0 from (modes_of p call.pred.0) ≡ None
+IsTryingNext p m call from (Some i) = IsTrying p m call from i

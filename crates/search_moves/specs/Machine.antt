@@ -10,7 +10,7 @@ use Rattle.beta_fragment.specs.Names.{names}
 use Rattle.beta_fragment.specs.HeadForm.{all_read}
 use Rattle.builtins.specs.Moves.{MovesTo, event_shown}
 use Rattle.ref_terms.specs.unification.Problem.{Binding}
-use Rattle.ref_terms.specs.search.Formula.{GoalKind, Suspending, goal_kind}
+use Rattle.ref_terms.specs.search.Formula.{GoalKind}
 use Rattle.ref_terms.specs.search.GoalMove.{kind_move}
 use Rattle.ref_terms.specs.search.Branch.{Goal, Branch, bound_branch}
 use Rattle.ref_terms.specs.search.State as state
@@ -89,15 +89,6 @@ pub record GoesOnSo (table : List (List ℕ)) (old new : Machine) (depth : ℕ) 
 -- the reference's move of the first goal, if it is of this kind
 abbrev pub move_of : Program → Machine → Frame → GoalKind → Move
 move_of p m f kind = kind_move unify p (branch_of m) (goal_in m.world.heap f) (rest_of m f) (alternatives_of p m) kind
-
--- kinds of goals that the search doesn't know yet
-abbrev pub IsUnbuilt : GoalKind → Type 0
-IsUnbuilt (Suspending a k) = Unit {0}
-IsUnbuilt _ = ⊥
-
--- the machine runs, and its first goal is of such a kind
-abbrev pub MeetsUnbuilt : Machine → Type 0
-MeetsUnbuilt m = (goal : Goal) × (rest : List Goal) × (m.phase ≡ phase.Running) × ((branch_of m).goals ≡ goal ∷ rest) × IsUnbuilt (goal_kind goal.term)
 
 -- the machine has made the move of the first goal
 abbrev pub HasMovedBy : (old new : Machine) → Frame → GoalKind → Event → Type 0

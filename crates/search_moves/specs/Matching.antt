@@ -11,6 +11,7 @@ use Rattle.ref_terms.specs.unification.Problem.{Binding}
 use Rattle.ref_terms.specs.unification.Unification.{unify}
 use Rattle.ref_terms.specs.search.Branch.{Branch, bound, bound_branch}
 use Rattle.ref_terms.specs.search.Resolve.{Tried, Fits, Clashes, Breaks, equations_at, matched}
+use Rattle.search_moves.specs.Instances.{HaveBuiltValues}
 use Rattle.search_moves.specs.Solving.{problem_of_all}
 
 -- what the reference makes of a branch: the inputs are matched, and then the outputs are unified
@@ -20,6 +21,7 @@ tried_at g mark depth ms hs ts b = matched unify b (equations_at false depth ms 
 -- they fit: each branch goes on under some bindings, and so does each node of the heap
 pub record HeadFits (mark depth : ℕ) (ms : List Bool) (hs ts : List TermId) (old new : Graph) : Type 0 where
   pub made : List Binding
+  pub built : HaveBuiltValues made
   pub fits : (b : Branch) → tried_at old mark depth ms hs ts b ≡ Fits (bound_branch made (length new.depths) b)
   pub readings : (t : ℕ) (env : ℕ → Term) → t < length old.nodes → read new t env ≡ bound made (read old t env)
 

@@ -4,9 +4,14 @@ use Rattle.level_terms.specs.Graph.{Graph}
 use Rattle.level_terms.specs.Reading.{read}
 use Rattle.beta_fragment.specs.Names.{names}
 use Rattle.beta_fragment.specs.HeadForm.{all_read}
+use Rattle.hyp_clause.specs.declared.hyp.Hyp.{Hyp}
 use Rattle.hyp_clause.specs.Hyps.{assumption_in}
+use Rattle.suspend.specs.declared.constraint.Constraint.{Constraint}
+use Rattle.suspend.specs.declared.constraint.Fired.{Fired}
+use Rattle.suspend.specs.Store.{added, stored, firings}
 use Rattle.ref_terms.specs.declared.path.Choice.TheVariants.{Right}
 use Rattle.ref_terms.specs.search.Program.{Program}
+use Rattle.ref_terms.specs.search.Branch as branch
 use Rattle.ref_terms.specs.search.Branch.{Goal, Branch}
 use Rattle.ref_terms.specs.search.State.{Alternative, Candidate, of_assumption, later_clauses, other_side}
 use Rattle.ref_terms.specs.search.Assumption.{Assumption}
@@ -23,15 +28,29 @@ use Rattle.search_moves.specs.World.{World, undone, chain}
 abbrev pub goal_in : Graph → Frame → Goal
 goal_in g f = record { names = f.depth; assumptions = map (assumption_in g) f.context; barrier = f.barrier; term = read g f.term.index names }
 
+-- the constraint of the reference that a suspended goal with its number is
+abbrev pub constraint_in : Graph → ℕ × Constraint (List Hyp) → branch.Constraint
+constraint_in g e = record {
+  number = e.0;
+  names = e.1.names;
+  assumptions = map (assumption_in g) e.1.context;
+  term = read g e.1.goal.index names;
+  keys = all_read g e.1.keys;
+}
+
+-- a firing of the reference
+abbrev pub firing_of : Fired → branch.Fired
+firing_of f = record { rule = f.rule; constraints = f.constraints.items }
+
 -- the branch with these goals
 abbrev pub branch_in : World → (first : ℕ) → Branch
 branch_in w first = record {
   goals = map (goal_in w.heap) (chain w.frames first);
-  store = [];
-  fired = [];
+  store = map (constraint_in w.heap) (stored w.log);
+  fired = map firing_of (firings w.log);
   query = all_read w.heap w.query;
   next_var = length w.heap.depths;
-  declared = 0;
+  declared = added w.log;
   path = w.path;
 }
 

@@ -6,7 +6,7 @@ use Rattle.search_moves.specs.World.{World}
 
 -- the stage, as contracts see it
 abbrev pub world_of : Inside → World
-world_of s = record { heap = s.heap; frames = reverse s.frames.items; path = reverse s.path.items; query = s.query.items; base = s.base }
+world_of s = record { heap = s.heap; frames = reverse s.frames.items; path = reverse s.path.items; log = s.store; query = s.query.items; base = s.base }
 
 -- the trail is the heap's own
 pub record IsStage (s : Inside) : Type 0 where

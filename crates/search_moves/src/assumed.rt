@@ -79,7 +79,7 @@ fn left_after<C: Clauses>(
             let next = one_more(place)?;
             Ok(Some(Later::Assumptions(next, tail)))
         }
-        None => Ok(from_clause(code.next_clause(c, 0))),
+        None => Ok(from_clause(code.first_clause(c))),
     }
 }
 

@@ -13,7 +13,7 @@ ghost use Rattle.search_moves.specs.World.{code_nodes};
 ghost use Rattle.search_moves.specs.declared.machine.Phase.TheVariants.{Running};
 ghost use Rattle.search_moves.specs.Machine.{move_of, HasMoved, IsFirst, LeavesAlternatives};
 ghost use Rattle.search_moves.specs.Moves.{Growing, LeavesRest};
-ghost use Rattle.search_moves.specs.Calling.{IsCall, HasInputs, HasFitted, HasClashed, HasBroken, tried_here, HasEntered, BreaksSo, IsNextClause, HasResolved, resolved_from, ResolvedStops, LeavesLater, IsNoFault, clauses_from};
+ghost use Rattle.search_moves.specs.Calling.{IsCall, HasInputs, HasFitted, HasClashed, HasBroken, tried_here, HasEntered, BreaksSo, IsNextClause, HasResolved, resolved_from, ResolvedStops, LeavesLater, IsNoFault, clauses_from, key_of_call};
 ghost use Rattle.search_moves.specs.Saved.{AllSaved};
 ghost use Rattle.search_moves.specs.declared.frame.Left.TheVariants as LeftVariants;
 ghost use Rattle.level_terms.specs.Sound.{IsSound};
@@ -22,6 +22,8 @@ use crate::clauses::{Clauses, Instance};
 use crate::frame::{Frame, Later, Left, Mark};
 use crate::machine::{Event, Machine, Phase};
 use beta_fragment::UnifyStop;
+use clause_key::Key;
+use clause_key::laws::law_disagreeing_clause_clashes;
 use level_terms::{TermId, VarId};
 use ref_terms::{Choice, Fault, Sym};
 use std::alloc::AllocError;
@@ -97,8 +99,9 @@ impl Machine {
         }
     }
 
-    /// Tries a clause on the call, and answers whether it fits: then its body is entered, and the
-    /// later clauses, if there are any, become an alternative. Where it doesn't fit, all is as before.
+    /// Tries a clause on the call, and answers whether it fits: then its body is made and entered, and
+    /// the later clauses, if there are any, become an alternative. Where it doesn't fit, all is as
+    /// before, and no body was made.
     fn try_clause<C: Clauses>(
         &mut self,
         code: &C,
@@ -133,12 +136,26 @@ impl Machine {
         }
         let rest = from_clause(later);
         self.leave_rest(mark, first, call.pred, rest)?;
-        self.enter(call.goal, barrier, made.body, Choice::Clause(clause))?;
+        let body = self.body(code, clause, call.goal.depth, made.variables)?;
+        self.enter(call.goal, barrier, body, Choice::Clause(clause))?;
         Ok(true)
     }
 
+    /// The key of the call. All is as before.
+    fn key_of(&mut self, call: &Call<'_>) -> Result<Key, AllocError>
+        requires call { IsCall self.old call.now }
+        ensures key { IfOk result (λ key. key ≡ key_of_call self.old.world.heap call.now) }
+        ensures same { self.new ≡ self.old }
+    {
+        if call.args.len() != call.inputs.len() {
+            return Ok(Key::Any);
+        }
+        self.key_among(call.inputs, call.args, call.goal.depth)
+    }
+
     /// Tries the clauses of the call's constant from a number on, in order, and answers whether one
-    /// fits: then it is as after that clause. Where all clash, all is as before.
+    /// fits: then it is as after that clause. Where all clash, all is as before. Those that are bound
+    /// to clash by the key of the call are passed over.
     pub(crate) fn resolve<C: Clauses>(
         &mut self,
         code: &C,
@@ -156,8 +173,10 @@ impl Machine {
         ensures phase { self.new.phase ≡ self.old.phase }
         ensures code { code_nodes self.new.world ≡ code_nodes self.old.world }
     {
+        law_disagreeing_clause_clashes();
         let count = code.clauses();
-        let mut next = code.next_clause(call.pred, from);
+        let key = self.key_of(call)?;
+        let mut next = code.next_clause(call.pred, key, from);
         while let Some(clause) = next {
             let later = code.later_clause(call.pred, clause);
             match self.try_clause(code, call, clause, later) {
@@ -165,7 +184,7 @@ impl Machine {
                 Ok(false) => {}
                 Err(stop) => return Err(stop),
             }
-            next = later;
+            next = code.next_clause(call.pred, key, clause + 1);
         }
         Ok(false)
     }

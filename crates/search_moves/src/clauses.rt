@@ -1,21 +1,25 @@
 //! What a search asks of a program's clauses.
 
-ghost use Rattle.std.specs.Prelude.{◌≡◌, ◌<◌, ◌≤◌, suc, List, [], ℕ, length, IfOk, Some, None, MatchOption, slice_get};
+ghost use Rattle.std.specs.Prelude.{◌≡◌, ◌<◌, ◌≤◌, suc, List, [], ℕ, length, IfOk, OnOk, Some, None, MatchOption, slice_get, option_to_list};
 ghost use Rattle.level_terms.specs.Growth.{Grows};
 ghost use Rattle.level_terms.specs.declared.node.Node.{Node as HeapNode};
 ghost use Rattle.ref_terms.specs.search.Program.{Program, Clause, modes_of};
+ghost use Rattle.beta_fragment.specs.HeadForm.{AllValidAt};
 ghost use Rattle.search_moves.specs.World.{oldest};
-ghost use Rattle.search_moves.specs.Calling.{IsInstanceOf, IsNextClause};
+ghost use Rattle.search_moves.specs.Instances.{IsInstanceOf, IsBodyOver};
+ghost use Rattle.search_moves.specs.Calling.{IsNextClause};
+ghost use Rattle.clause_key.specs.Passing.{IsNextFor};
 
-use level_terms::{Heap, TermId, TermIds};
+use clause_key::Key;
+use level_terms::{Heap, TermId};
 use ref_terms::Sym;
 use std::alloc::{AllocError, Global};
 
-/// A clause in the heap, over variables of its own.
+/// A clause in the heap: the arguments of its head, and the nodes of its variables, by their numbers.
 #[derive(Drop)]
 pub struct Instance {
-    pub heads: TermIds,
-    pub body: Option<TermId>,
+    pub heads: Vec<TermId>,
+    pub variables: Vec<TermId>,
 }
 
 /// Clauses of a program, whose parts without variables are nodes of a heap, its oldest ones.
@@ -31,15 +35,19 @@ pub trait Clauses {
     fn modes(&self, c: Sym) -> Option<&[bool]>
         ensures { (ns : List HeapNode) (p : Program) → stands ns self.now p → MatchOption result (modes_of p c.0 ≡ None) (λ ms. modes_of p c.0 ≡ Some ms.now) };
 
-    /// The first clause of a constant from a number on.
-    fn next_clause(&self, c: Sym, from: usize) -> Option<usize>
-        ensures { (ns : List HeapNode) (p : Program) → stands ns self.now p → IsNextClause p.clauses c.0 from result };
+    /// The first clause of a constant.
+    fn first_clause(&self, c: Sym) -> Option<usize>
+        ensures { (ns : List HeapNode) (p : Program) → stands ns self.now p → IsNextClause p.clauses c.0 0 result };
 
     /// The first clause of a constant after a clause.
     fn later_clause(&self, c: Sym, clause: usize) -> Option<usize>
         ensures { (ns : List HeapNode) (p : Program) → stands ns self.now p → IsNextClause p.clauses c.0 (suc clause) result };
 
-    /// Makes a clause's variables at the depth, its head's arguments and its body.
+    /// The first clause of a constant from a number on that agrees with the key of a call.
+    fn next_clause(&self, c: Sym, key: Key, from: usize) -> Option<usize>
+        ensures { (ns : List HeapNode) (p : Program) → stands ns self.now p → IsNextFor p c.0 key from result };
+
+    /// Makes a clause's variables at the depth, and its head's arguments over them.
     fn instance(
         &self,
         alloc: Global,
@@ -50,5 +58,24 @@ pub trait Clauses {
         requires { (n : ℕ) × (p : Program) × (n ≤ length heap.old.nodes) × (stands (oldest n heap.old.nodes) self.now p) × (clause < length p.clauses) }
         ensures made { IfOk result (λ i. (n : ℕ) (p : Program) (k : Clause) → n ≤ length heap.old.nodes → stands (oldest n heap.old.nodes) self.now p
             → slice_get p.clauses clause ≡ Some k → IsInstanceOf k depth heap.old heap.new i) }
+        ensures grows { Grows heap.old heap.new [] [] };
+
+    /// Makes a clause's body over the nodes of its variables, whatever these have become since they
+    /// were made at the depth.
+    fn body(
+        &self,
+        alloc: Global,
+        heap: &mut Heap,
+        clause: usize,
+        depth: usize,
+        variables: Vec<TermId>,
+    ) -> Result<Option<TermId>, AllocError>
+        requires code { (n : ℕ) × (p : Program) × (k : Clause) × (n ≤ length heap.old.nodes) × (stands (oldest n heap.old.nodes) self.now p)
+            × (slice_get p.clauses clause ≡ Some k) × (length variables.items ≡ k.variables) }
+        requires variables { AllValidAt heap.old variables.items depth }
+        ensures made { IfOk result (λ body. (n : ℕ) (p : Program) (k : Clause) → n ≤ length heap.old.nodes → stands (oldest n heap.old.nodes) self.now p
+            → slice_get p.clauses clause ≡ Some k → IsBodyOver k depth variables.items heap.old heap.new body) }
+        ensures valid { IfOk result (λ body. AllValidAt heap.new (option_to_list body) depth) }
+        ensures variables { OnOk result (heap.new.depths ≡ heap.old.depths) }
         ensures grows { Grows heap.old heap.new [] [] };
 }

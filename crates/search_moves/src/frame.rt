@@ -6,6 +6,7 @@ use hyp_context::{Context, HypTail};
 use level_terms::{HeapMark, TermId};
 use ref_terms::Sym;
 use std::alloc::AllocError;
+use suspend::StoreMark;
 
 /// A goal, with the goals after it. A list of goals is the number of its first frame and those older:
 /// 0 is the empty list, and `n + 1` is the goal of frame `n`, before the list that it names as `next`.
@@ -52,6 +53,7 @@ pub struct Mark {
     pub heap: HeapMark,
     pub frames: usize,
     pub path: usize,
+    pub store: StoreMark,
 }
 
 /// What a call has left to try.

@@ -1,6 +1,6 @@
 //! The machine, and the parts of its moves.
 
-ghost use Rattle.std.specs.Prelude.{◌≡◌, ◌+◌, ℕ, [], ◌∷◌, ◌++◌, ◌<◌, ◌≤◌, suc, length, map, replicate, reverse, true, false, IfOk, OnOk, OnErr, IfErr, IfSome, IfNone, option_to_list, MatchBool, MatchOption, Some, slice_get, None};
+ghost use Rattle.std.specs.Prelude.{◌≡◌, ◌+◌, ℕ, List, [], ◌∷◌, ◌++◌, ◌<◌, ◌≤◌, suc, length, map, replicate, reverse, true, false, IfOk, OnOk, OnErr, IfErr, IfSome, IfNone, option_to_list, MatchBool, MatchOption, Some, slice_get, None};
 ghost use Rattle.level_terms.specs.Growth.{Grows};
 ghost use Rattle.level_terms.specs.Reading.{read};
 ghost use Rattle.level_terms.specs.Valid.{IsValid};
@@ -8,7 +8,8 @@ ghost use Rattle.level_terms.specs.Undo.{IsTrailOf};
 ghost use Rattle.level_terms.specs.Sound.{IsSound};
 ghost use Rattle.beta_fragment.specs.HeadForm.{IsHeadForm, AllValidAt, all_read};
 ghost use Rattle.search_moves.specs.declared.frame.Left.TheVariants as LeftVariants;
-ghost use Rattle.search_moves.specs.Calling.{HasFitted, HasClashed, HasBroken, IsInstanceOf, IsMadeOf};
+ghost use Rattle.search_moves.specs.Instances.{IsInstanceOf, IsMadeOf, IsBodyOver};
+ghost use Rattle.search_moves.specs.Calling.{HasFitted, HasClashed, HasBroken};
 ghost use Rattle.hyp_clause.specs.Hyps.{assumption_in, IsHypValid, IsHypFault};
 ghost use Rattle.ref_terms.specs.search.Assumption.{assumptions_of};
 ghost use Rattle.ref_terms.specs.search.Fault.{Good};
@@ -28,8 +29,10 @@ ghost use Rattle.level_terms.specs.Graph.{Graph};
 ghost use Rattle.goal_form.specs.Kinds.{IsKindOf};
 ghost use Rattle.search_moves.specs.World.{chain, IsFine, IsContextAt, IsUsable, mark_of, undone, code_nodes};
 ghost use Rattle.search_moves.specs.Reading.{goal_in, left_at, saved_in};
+ghost use Rattle.search_moves.specs.Waking.{first_up, AllGoalsAt, WakesOne};
 ghost use Rattle.search_moves.specs.Machine.{Machine, branch_of, alternatives_of, rest_of, IsFirst, LeavesAlternatives, GoesOnSo, StartsWith};
 ghost use Rattle.search_moves.specs.Saved.{newest_frames, AllSaved, HasLeft};
+ghost use Rattle.clause_key.specs.Keys.{key_among};
 ghost use Rattle.ref_terms.specs.search.State.{other_side};
 ghost use Rattle.ref_terms.specs.search.BranchMove.{cut_to, applied_whole};
 ghost use Rattle.ref_terms.specs.declared.path.Choice.TheVariants.{Right as RightSide};
@@ -41,6 +44,7 @@ use crate::visitor::Visitor;
 use beta_fragment::{UnifyStop, Whnf};
 use builtins::{Builtin, Events};
 use choice_stack::ChoiceStack;
+use clause_key::Key;
 use goal_form::{GoalKind, kind_of_form};
 use hyp_clause::{Hyp, HypStop, Hyps};
 use hyp_context::Context;
@@ -50,6 +54,7 @@ use lp_resolve::Symbols;
 use ref_terms::{Choice, Fault};
 use std::alloc::{AllocError, AllocFailed, Global};
 use std::marker::Model;
+use suspend::Constraint;
 use trail::Trail;
 
 /// What the last move came to.
@@ -75,25 +80,6 @@ pub enum Event {
     Answer,
     Failure,
     Fault(Fault),
-}
-
-/// Why a move isn't made.
-#[derive(Clone, Copy)]
-pub enum Stop {
-    Memory,
-    /// The goal is of a form that isn't built yet.
-    NotYet,
-}
-
-impl From<AllocError> for Stop {
-    ghost use Rattle.std.specs.Prelude.{◌≡◌};
-    ghost use Rattle.search_moves.specs.declared.machine.Stop.TheVariants.{Memory};
-
-    ghost from_gives = { λ _ stop. stop ≡ Memory };
-
-    fn from(_: AllocError) -> Stop {
-        Stop::Memory
-    }
 }
 
 /// A search.
@@ -179,6 +165,20 @@ impl Machine {
         ensures { result ≡ length self.now.saved }
     {
         self.choices.len()
+    }
+
+    /// No nodes. Takes no memory.
+    pub(crate) fn no_terms(&self) -> TermIds
+        ensures { result ≡ [] }
+    {
+        self.stage.no_terms()
+    }
+
+    /// No goals. Takes no memory.
+    pub(crate) fn no_goals(&self) -> Vec<Frame>
+        ensures { result.items ≡ [] }
+    {
+        self.stage.no_goals()
     }
 
     /// The number of the next variable.
@@ -420,6 +420,8 @@ impl Machine {
     pub(crate) fn whnf(&mut self, t: TermId, depth: usize) -> Result<Whnf, AllocError>
         requires { IsValid self.old.world.heap t.index depth }
         ensures form { IfOk result (λ w. IsHeadForm self.new.world.heap depth (read self.old.world.heap t.index names) w) }
+        ensures readings { (i : ℕ) (d : ℕ) → IsValid self.old.world.heap i d → read self.new.world.heap i names ≡ read self.old.world.heap i names }
+        ensures valid { (i : ℕ) (d : ℕ) → IsValid self.old.world.heap i d → IsValid self.new.world.heap i d }
         ensures first { (f : Frame) → IsFirst self.old f → IsFirst self.new f }
         ensures goal { (f : Frame) → IsFirst self.old f → goal_in self.new.world.heap f ≡ goal_in self.old.world.heap f }
         ensures branch { branch_of self.new ≡ branch_of self.old }
@@ -511,7 +513,21 @@ impl Machine {
         Ok(())
     }
 
-    /// Makes a clause in the heap.
+    /// The key among arguments of which these are inputs. All is as before.
+    pub(crate) fn key_among(
+        &mut self,
+        inputs: &[bool],
+        args: &[TermId],
+        depth: usize,
+    ) -> Result<Key, AllocError>
+        requires { AllValidAt self.old.world.heap args.now depth }
+        ensures key { IfOk result (λ key. key ≡ key_among inputs.now (all_read self.old.world.heap args.now)) }
+        ensures same { self.new ≡ self.old }
+    {
+        self.stage.key_among(inputs, args, depth)
+    }
+
+    /// Makes a clause's variables and its head in the heap.
     pub(crate) fn instance<C: Clauses>(
         &mut self,
         code: &C,
@@ -530,6 +546,30 @@ impl Machine {
     {
         self.stage.is_sound();
         self.stage.instance(code, clause, depth)
+    }
+
+    /// Makes a clause's body in the heap, over the nodes of its variables.
+    pub(crate) fn body<C: Clauses>(
+        &mut self,
+        code: &C,
+        clause: usize,
+        depth: usize,
+        variables: Vec<TermId>,
+    ) -> Result<Option<TermId>, AllocError>
+        requires code { (p : Program) × (k : Clause) × (C.stands (code_nodes self.old.world) code.now p) × (slice_get p.clauses clause ≡ Some k) × (length variables.items ≡ k.variables) }
+        requires variables { AllValidAt self.old.world.heap variables.items depth }
+        ensures made { IfOk result (λ body. (p : Program) (k : Clause) → C.stands (code_nodes self.old.world) code.now p → slice_get p.clauses clause ≡ Some k
+            → IsBodyOver k depth variables.items self.old.world.heap self.new.world.heap body) }
+        ensures valid { IfOk result (λ body. AllValidAt self.new.world.heap (option_to_list body) depth) }
+        ensures first { (f : Frame) → IsFirst self.old f → IsFirst self.new f }
+        ensures branch { OnOk result (branch_of self.new ≡ branch_of self.old) }
+        ensures saved { self.new.saved ≡ self.old.saved }
+        ensures phase { self.new.phase ≡ self.old.phase }
+        ensures code { code_nodes self.new.world ≡ code_nodes self.old.world }
+        ensures alternatives { LeavesAlternatives self.old self.new }
+    {
+        self.stage.is_sound();
+        self.stage.body(code, clause, depth, variables)
     }
 
     /// Makes an assumption in the heap, at so many names.
@@ -648,6 +688,69 @@ impl Machine {
         Ok(())
     }
 
+    /// Puts a goal last into the store, with the names and the assumptions of this one.
+    pub(crate) fn suspend_goal(
+        &mut self,
+        goal: &Frame,
+        t: TermId,
+        keys: TermIds,
+    ) -> Result<(), AllocError>
+        requires suspended { IsValid self.old.world.heap t.index goal.now.depth }
+        requires keys { AllValidAt self.old.world.heap keys goal.now.depth }
+        requires context { IsContextAt self.old.world.heap goal.now.depth goal.now.context }
+        ensures branch { OnOk result (branch_of self.new ≡ record (branch_of self.old) {
+          store = (branch_of self.old).store ++ record {
+            number = suc (branch_of self.old).declared;
+            names = goal.now.depth;
+            assumptions = map (assumption_in self.old.world.heap) goal.now.context;
+            term = read self.old.world.heap t.index names;
+            keys = all_read self.old.world.heap keys;
+          } ∷ [];
+          declared = suc (branch_of self.old).declared;
+        }) }
+        ensures saved { self.new.saved ≡ self.old.saved }
+        ensures phase { self.new.phase ≡ self.old.phase }
+        ensures code { code_nodes self.new.world ≡ code_nodes self.old.world }
+        ensures alternatives { LeavesAlternatives self.old self.new }
+    {
+        let context = goal.context.copy()?;
+        self.stage.suspend_goal(Constraint {
+            names: goal.depth,
+            context,
+            goal: t,
+            keys,
+        })?;
+        Ok(())
+    }
+
+    /// The number of the first awake constraint, if there is one.
+    pub(crate) fn awake(&mut self) -> Result<Option<u64>, AllocError>
+        ensures first { IfOk result (λ o. o ≡ first_up (branch_of self.old).store) }
+        ensures goals { (fs : List Frame) → AllGoalsAt self.old.world.heap fs → (map (goal_in self.new.world.heap) fs ≡ map (goal_in self.old.world.heap) fs) × AllGoalsAt self.new.world.heap fs }
+        ensures branch { branch_of self.new ≡ branch_of self.old }
+        ensures saved { self.new.saved ≡ self.old.saved }
+        ensures phase { self.new.phase ≡ self.old.phase }
+        ensures code { code_nodes self.new.world ≡ code_nodes self.old.world }
+        ensures alternatives { LeavesAlternatives self.old self.new }
+    {
+        self.stage.is_sound();
+        self.stage.awake()
+    }
+
+    /// Takes the first awake constraint out of the store, and answers its goal with this barrier.
+    pub(crate) fn withdraw(&mut self, id: u64, barrier: usize) -> Result<Frame, AllocError>
+        requires { first_up (branch_of self.old).store ≡ Some id }
+        ensures woken { IfOk result (WakesOne barrier self.old self.new) }
+        ensures heap { self.new.world.heap ≡ self.old.world.heap }
+        ensures saved { self.new.saved ≡ self.old.saved }
+        ensures phase { self.new.phase ≡ self.old.phase }
+        ensures code { code_nodes self.new.world ≡ code_nodes self.old.world }
+        ensures alternatives { LeavesAlternatives self.old self.new }
+    {
+        let goal = self.stage.withdraw(id, barrier)?;
+        Ok(goal)
+    }
+
     /// Keeps the oldest alternatives, as many as that.
     pub(crate) fn cut_choices(&mut self, barrier: usize)
         ensures alternatives { (p : Program) → alternatives_of p self.new ≡ cut_to barrier (alternatives_of p self.old) }
@@ -660,10 +763,10 @@ impl Machine {
         }
     }
 
-    /// Lets a visitor look at the terms of the query's variables in the present branch. The machine
-    /// stays as it was.
+    /// Lets a visitor look at the terms of the query's variables and the suspended goals of the present
+    /// branch. The machine stays as it was.
     pub fn visit<V: Visitor>(&mut self, visitor: &mut V) -> Result<(), AllocError>
-        ensures sees { OnOk result (V.sees visitor.old (branch_of self.old).query visitor.new) }
+        ensures sees { OnOk result (V.sees visitor.old (branch_of self.old).query (branch_of self.old).store visitor.new) }
         ensures same { self.new ≡ self.old }
     {
         self.stage.visit(visitor)

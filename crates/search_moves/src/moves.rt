@@ -1,6 +1,6 @@
 //! The moves.
 
-ghost use Rattle.std.specs.Prelude.{◌≡◌, ◌≢◌, IfOk, IfErr, ◌∷◌, []};
+ghost use Rattle.std.specs.Prelude.{◌≡◌, ◌≢◌, IfOk, OnOk, OnErr, ◌∷◌, [], filter};
 ghost use Rattle.level_terms.specs.Reading.{read};
 ghost use Rattle.level_terms.specs.Valid.{IsValid};
 ghost use Rattle.beta_fragment.specs.HeadForm.{all_read, AllValidAt};
@@ -10,17 +10,16 @@ ghost use Rattle.goal_form.specs.Builtins.{builtin_word};
 ghost use Rattle.ref_terms.specs.unification.Unification.{unify};
 ghost use Rattle.ref_terms.specs.search.Formula.{reserved_goal, Truth, Failing, Cut, Conjunction, Disjunction};
 ghost use Rattle.ref_terms.specs.search.Program.{Program};
-ghost use Rattle.ref_terms.specs.search.Next.{next, retry};
+ghost use Rattle.ref_terms.specs.search.Next.{next, is_awake};
 ghost use Rattle.search_moves.specs.declared.machine.Phase.TheVariants.{Running, Starved, Broken};
-ghost use Rattle.search_moves.specs.declared.machine.Stop.TheVariants.{Memory, NotYet};
 ghost use Rattle.search_moves.specs.declared.machine.Event.TheVariants as event;
 ghost use Rattle.search_moves.specs.World.{code_nodes};
 ghost use Rattle.builtins.specs.Moves.{event_shown};
-ghost use Rattle.search_moves.specs.Machine.{Machine, event_of, state_of, alternatives_of, move_of, IsFirst, HasMoved, HasMovedBy, IsUnbuilt, MeetsUnbuilt};
+ghost use Rattle.search_moves.specs.Machine.{Machine, event_of, state_of, branch_of, move_of, IsFirst, HasMoved, HasMovedBy};
 
 use crate::clauses::Clauses;
 use crate::frame::{Frame, Left};
-use crate::machine::{Event, Machine, Phase, Stop};
+use crate::machine::{Event, Machine, Phase};
 use beta_fragment::UnifyStop;
 use builtins::{Builtin, Events};
 use goal_form::GoalKind;
@@ -40,54 +39,66 @@ fn event_of(events: &mut Events) -> Event
 }
 
 impl Machine {
-    /// One move of the search: its event, and the machine after it. After `Failure` and `Fault` it
-    /// answers the same again, and after want of memory `Stop::Memory`. `Stop::NotYet` comes where the
-    /// first goal is of a kind that isn't built.
-    pub fn step<C: Clauses>(&mut self, code: &C, symbols: &Symbols) -> Result<Event, Stop>
+    /// One move of the search: its event, and the machine after it. Awake constraints come first, and
+    /// then the first goal. After `Failure` and `Fault` it answers the same again. `AllocError` is want
+    /// of memory alone, and comes again from then on.
+    pub fn step<C: Clauses>(&mut self, code: &C, symbols: &Symbols) -> Result<Event, AllocError>
         requires code { (p : Program) × (C.stands (code_nodes self.old.world) code.now p) }
         ensures moved { IfOk result (λ e. (p : Program) → C.stands (code_nodes self.old.world) code.now p → p.symbols ≡ symbols.now → p.rules ≡ []
             → HasMoved p (next unify p (state_of p self.old)) e self.new) }
-        ensures not_yet { IfErr result (λ stop. stop ≡ NotYet → MeetsUnbuilt self.old) }
-        ensures starved { IfErr result (λ stop. stop ≡ Memory → self.new.phase ≡ Starved) }
-        ensures stays { IfOk result (λ e. self.old.phase ≢ Starved) }
+        ensures starved { OnErr result (self.new.phase ≡ Starved) }
+        ensures stays { OnOk result (self.old.phase ≢ Starved) }
         ensures code { code_nodes self.new.world ≡ code_nodes self.old.world }
     {
         match self.advance(code, symbols) {
             Ok(event) => Ok(event),
-            Err(Stop::Memory) => {
+            Err(AllocError) => {
                 self.set_phase(Phase::Starved);
-                Err(Stop::Memory)
+                Err(AllocError)
             }
-            Err(Stop::NotYet) => Err(Stop::NotYet),
         }
     }
 
     /// One move; after want of memory nothing is said of the machine but that it can be used.
-    fn advance<C: Clauses>(&mut self, code: &C, symbols: &Symbols) -> Result<Event, Stop>
+    fn advance<C: Clauses>(&mut self, code: &C, symbols: &Symbols) -> Result<Event, AllocError>
         requires code { (p : Program) × (C.stands (code_nodes self.old.world) code.now p) }
         ensures moved { IfOk result (λ e. (p : Program) → C.stands (code_nodes self.old.world) code.now p → p.symbols ≡ symbols.now → p.rules ≡ []
             → HasMoved p (next unify p (state_of p self.old)) e self.new) }
-        ensures not_yet { IfErr result (λ stop. stop ≡ NotYet → MeetsUnbuilt self.old) }
-        ensures stays { IfOk result (λ e. self.old.phase ≢ Starved) }
+        ensures stays { OnOk result (self.old.phase ≢ Starved) }
         ensures code { code_nodes self.new.world ≡ code_nodes self.old.world }
     {
         match self.phase() {
             Phase::Running => self.run(code, symbols),
-            Phase::Answered => Ok(self.retry(code)?),
-            Phase::Failed => Ok(self.retry(code)?),
+            Phase::Answered => self.retry(code),
+            Phase::Failed => self.retry(code),
             Phase::Exhausted => Ok(Event::Failure),
             Phase::Broken(e) => Ok(Event::Fault(e)),
-            Phase::Starved => Err(Stop::Memory),
+            Phase::Starved => Err(AllocError),
         }
     }
 
-    /// The first goal, or an answer.
-    fn run<C: Clauses>(&mut self, code: &C, symbols: &Symbols) -> Result<Event, Stop>
+    /// The awake constraints, if there are any; else the first goal, or an answer.
+    fn run<C: Clauses>(&mut self, code: &C, symbols: &Symbols) -> Result<Event, AllocError>
         requires running { self.old.phase ≡ Running }
         requires code { (p : Program) × (C.stands (code_nodes self.old.world) code.now p) }
         ensures moved { IfOk result (λ e. (p : Program) → C.stands (code_nodes self.old.world) code.now p → p.symbols ≡ symbols.now → p.rules ≡ []
             → HasMoved p (next unify p (state_of p self.old)) e self.new) }
-        ensures not_yet { IfErr result (λ stop. stop ≡ NotYet → MeetsUnbuilt self.old) }
+        ensures code { code_nodes self.new.world ≡ code_nodes self.old.world }
+    {
+        let woken = self.wake()?;
+        if woken {
+            return Ok(Event::Moved);
+        }
+        self.run_first(code, symbols)
+    }
+
+    /// The first goal, or an answer. No constraint is awake.
+    fn run_first<C: Clauses>(&mut self, code: &C, symbols: &Symbols) -> Result<Event, AllocError>
+        requires running { self.old.phase ≡ Running }
+        requires asleep { filter is_awake (branch_of self.old).store ≡ [] }
+        requires code { (p : Program) × (C.stands (code_nodes self.old.world) code.now p) }
+        ensures moved { IfOk result (λ e. (p : Program) → C.stands (code_nodes self.old.world) code.now p → p.symbols ≡ symbols.now → p.rules ≡ []
+            → HasMoved p (next unify p (state_of p self.old)) e self.new) }
         ensures code { code_nodes self.new.world ≡ code_nodes self.old.world }
     {
         let first = self.goal()?;
@@ -106,13 +117,13 @@ impl Machine {
         code: &C,
         symbols: &Symbols,
         goal: &Frame,
-    ) -> Result<Event, Stop>
+    ) -> Result<Event, AllocError>
         requires running { self.old.phase ≡ Running }
+        requires asleep { filter is_awake (branch_of self.old).store ≡ [] }
         requires first { IsFirst self.old goal.now }
         requires code { (p : Program) × (C.stands (code_nodes self.old.world) code.now p) }
         ensures moved { IfOk result (λ e. (p : Program) → C.stands (code_nodes self.old.world) code.now p → p.symbols ≡ symbols.now → p.rules ≡ []
             → HasMoved p (next unify p (state_of p self.old)) e self.new) }
-        ensures not_yet { IfErr result (λ stop. stop ≡ NotYet → MeetsUnbuilt self.old) }
         ensures code { code_nodes self.new.world ≡ code_nodes self.old.world }
     {
         let kind = self.kind(goal)?;
@@ -126,30 +137,29 @@ impl Machine {
         symbols: &Symbols,
         goal: &Frame,
         kind: GoalKind,
-    ) -> Result<Event, Stop>
+    ) -> Result<Event, AllocError>
         requires running { self.old.phase ≡ Running }
         requires first { IsFirst self.old goal.now }
         requires kind { IsKindOf self.old.world.heap goal.now.depth (read self.old.world.heap goal.now.term.index names) kind }
         requires code { (p : Program) × (C.stands (code_nodes self.old.world) code.now p) }
         ensures moved { IfOk result (λ e. (p : Program) → C.stands (code_nodes self.old.world) code.now p → p.symbols ≡ symbols.now
             → HasMoved p (move_of p self.old goal.now (kind_in self.old.world.heap kind)) e self.new) }
-        ensures not_yet { IfErr result (λ stop. stop ≡ NotYet → IsUnbuilt (kind_in self.old.world.heap kind)) }
         ensures code { code_nodes self.new.world ≡ code_nodes self.old.world }
     {
         match kind {
             GoalKind::Truth => Ok(self.succeed(goal)),
             GoalKind::Failing => Ok(self.fail(goal)),
             GoalKind::Cut => Ok(self.cut(goal)),
-            GoalKind::Conjunction(a, b) => Ok(self.both(goal, a, b)?),
-            GoalKind::Disjunction(a, b) => Ok(self.either(goal, a, b)?),
-            GoalKind::Assuming(d, g) => Ok(self.assume(goal, d, g)?),
-            GoalKind::ForAll(f) => Ok(self.for_all(goal, f)?),
-            GoalKind::Exists(f) => Ok(self.exists(goal, f)?),
-            GoalKind::Suspending(_, _) => Err(Stop::NotYet),
+            GoalKind::Conjunction(a, b) => self.both(goal, a, b),
+            GoalKind::Disjunction(a, b) => self.either(goal, a, b),
+            GoalKind::Assuming(d, g) => self.assume(goal, d, g),
+            GoalKind::ForAll(f) => self.for_all(goal, f),
+            GoalKind::Exists(f) => self.exists(goal, f),
+            GoalKind::Suspending(t, keys) => self.declare(goal, t, keys),
             GoalKind::Builtin(builtin, args) => {
-                Ok(self.built_in(goal, symbols, builtin, args.as_slice())?)
+                self.built_in(goal, symbols, builtin, args.as_slice())
             }
-            GoalKind::Atom(c, args) => Ok(self.call(code, goal, c, args.as_slice())?),
+            GoalKind::Atom(c, args) => self.call(code, goal, c, args.as_slice()),
             GoalKind::Wrong(e) => Ok(self.break_off(e)),
         }
     }

@@ -1,6 +1,6 @@
 //! All that a retry takes back.
 
-ghost use Rattle.std.specs.Prelude.{◌≡◌, ◌+◌, ◌++◌, [], ◌∷◌, ◌<◌, ◌≤◌, suc, length, map, replicate, reverse, true, false, IfOk, OnOk, OnErr, IfErr, MatchBool, Some, slice_get, None};
+ghost use Rattle.std.specs.Prelude.{◌≡◌, List, ◌+◌, ◌++◌, [], ◌∷◌, ◌<◌, ◌≤◌, suc, length, map, replicate, reverse, true, false, IfOk, OnOk, OnErr, IfErr, MatchBool, Some, slice_get, None, option_to_list};
 ghost use Rattle.level_terms.specs.Growth.{Grows};
 ghost use Rattle.level_terms.specs.Reading.{read};
 ghost use Rattle.level_terms.specs.Sound.{IsSound};
@@ -14,15 +14,19 @@ ghost use Rattle.ref_terms.specs.search.Instance.{variable_under};
 ghost use Rattle.ref_terms.specs.search.BranchMove.{applied_whole};
 ghost use Rattle.beta_fragment.specs.Names.{names};
 ghost use Rattle.pattern_unify.specs.Answers.{problem_of, AnswersTrue, AnswersFalse, StopsSo};
-ghost use Rattle.search_moves.specs.World.{World, undone, mark_of, oldest, chain, IsWithin, IsContextAt, IsUsable, AllFrames, code_nodes};
+ghost use Rattle.search_moves.specs.World.{World, undone, mark_of, oldest, chain, IsWithin, IsContextAt, IsUsable, AllFrames, AllConstraints, code_nodes};
 ghost use Rattle.hyp_clause.specs.Hyps.{assumption_in, AllHypsValid, IsHypValid, IsHypFault};
 ghost use Rattle.ref_terms.specs.search.Assumption.{assumptions_of};
 ghost use Rattle.ref_terms.specs.search.Fault.{Good};
 ghost use Rattle.ref_terms.specs.search.Instance.{assumption_instance};
 ghost use Rattle.ref_terms.specs.terms.Apply.{apply};
 ghost use Rattle.ref_terms.specs.search.Program.{Program, Clause};
-ghost use Rattle.search_moves.specs.Calling.{IsInstanceOf, IsMadeOf};
+ghost use Rattle.search_moves.specs.Instances.{IsInstanceOf, IsMadeOf, IsBodyOver};
 ghost use Rattle.search_moves.specs.Moves.{LeavesRest, Growing};
+ghost use Rattle.suspend.specs.Store.{joins, leaves, stored, stored_at, is_stored};
+ghost use Rattle.suspend.specs.Keyed.{first_awake, Keyed};
+ghost use Rattle.search_moves.specs.Reading.{constraint_in};
+ghost use Rattle.clause_key.specs.Keys.{key_among};
 
 use crate::clauses::{Clauses, Instance};
 use crate::frame::{Frame, Mark};
@@ -30,13 +34,16 @@ use crate::opening::applied_to_variable;
 use crate::visitor::Visitor;
 use beta_fragment::{UnifyStop, Whnf, applied_to_level, whnf};
 use builtins::{Builtin, Events, call_builtin};
+use clause_key::{Key, key_of_call};
 use hyp_clause::{Hyp, HypStop, Hyps, compile_hyp, hyp_body_of, hyp_head_of};
+use hyp_context::Context;
 use input_match::match_arg;
-use level_terms::{Change, Heap, TermId, VarId};
+use level_terms::{Change, Heap, TermId, TermIds, VarId};
 use lp_resolve::Symbols;
 use ref_terms::Choice;
 use std::alloc::{AllocError, Global};
 use std::marker::Model;
+use suspend::{Constraint, Store};
 use trail::Trail;
 
 /// An assumption in the heap, over variables of its own.
@@ -48,7 +55,8 @@ pub(crate) struct Assumed {
     pub body: Vec<TermId>,
 }
 
-/// The heap with its trail, the frames of goals, the path, and the nodes of the query's variables.
+/// The heap with its trail, the frames of goals, the path, the suspended goals, and the nodes of the
+/// query's variables.
 /// Contracts see a `World`, whose lists stand newest first.
 #[derive(Drop)]
 pub(crate) struct Stage {
@@ -57,6 +65,7 @@ pub(crate) struct Stage {
     trail: Trail<Change>,
     frames: Vec<Frame>,
     path: Vec<Choice>,
+    store: Store<Context>,
     query: Vec<TermId>,
     base: usize,
 }
@@ -77,7 +86,7 @@ impl Stage {
     /// A stage with this heap, without goals and path. Takes no memory.
     pub(crate) fn new(alloc: Global, heap: Heap, trail: Trail<Change>, query: Vec<TermId>) -> Stage
         requires { IsTrailOf heap trail.entries }
-        ensures { result ≡ record { heap = heap; frames = []; path = []; query = query.items; base = length heap.nodes } }
+        ensures { result ≡ record { heap = heap; frames = []; path = []; log = []; query = query.items; base = length heap.nodes } }
     {
         let base = heap.mark(&trail).nodes;
         Stage {
@@ -86,6 +95,7 @@ impl Stage {
             trail,
             frames: Vec::new(alloc),
             path: Vec::new(alloc),
+            store: Store::new(alloc),
             query,
             base,
         }
@@ -121,6 +131,7 @@ impl Stage {
             heap: self.heap.mark(&self.trail),
             frames: self.frames.len(),
             path: self.path.len(),
+            store: self.store.mark(),
         }
     }
 
@@ -133,6 +144,7 @@ impl Stage {
         self.heap.undo(&mut self.trail, m.heap);
         self.frames.truncate(m.frames);
         self.path.truncate(m.path);
+        self.store.undo(m.store);
     }
 
     /// The first goal of a list of goals that isn't empty.
@@ -183,6 +195,7 @@ impl Stage {
         ensures grows { Grows self.old.heap self.new.heap [] [] }
         ensures rest { LeavesRest self.old self.new }
     {
+        self.heap.is_sound();
         whnf(self.alloc, &mut self.heap, t, depth)
     }
 
@@ -195,10 +208,28 @@ impl Stage {
         ensures grows { Grows self.old.heap self.new.heap [] [] }
         ensures rest { LeavesRest self.old self.new }
     {
+        self.heap.is_sound();
         applied_to_level(self.alloc, &mut self.heap, f, depth)
     }
 
-    /// Makes a clause in the heap.
+    /// The key among arguments of which these are inputs. What is made on the way is taken back.
+    pub(crate) fn key_among(
+        &mut self,
+        inputs: &[bool],
+        args: &[TermId],
+        depth: usize,
+    ) -> Result<Key, AllocError>
+        requires { AllValidAt self.old.heap args.now depth }
+        ensures key { IfOk result (λ key. key ≡ key_among inputs.now (all_read self.old.heap args.now)) }
+        ensures same { self.new ≡ self.old }
+    {
+        let before = self.mark();
+        let key = key_of_call(self.alloc, &mut self.heap, inputs, args, depth);
+        self.undo(before);
+        key
+    }
+
+    /// Makes a clause's variables and its head in the heap.
     pub(crate) fn instance<C: Clauses>(
         &mut self,
         code: &C,
@@ -211,7 +242,30 @@ impl Stage {
         ensures grows { Grows self.old.heap self.new.heap [] [] }
         ensures rest { LeavesRest self.old self.new }
     {
+        self.heap.is_sound();
         code.instance(self.alloc, &mut self.heap, clause, depth)
+    }
+
+    /// Makes a clause's body in the heap, over the nodes of its variables.
+    pub(crate) fn body<C: Clauses>(
+        &mut self,
+        code: &C,
+        clause: usize,
+        depth: usize,
+        variables: Vec<TermId>,
+    ) -> Result<Option<TermId>, AllocError>
+        requires base { self.old.base ≤ length self.old.heap.nodes }
+        requires code { (p : Program) × (k : Clause) × (C.stands (code_nodes self.old) code.now p) × (slice_get p.clauses clause ≡ Some k) × (length variables.items ≡ k.variables) }
+        requires variables { AllValidAt self.old.heap variables.items depth }
+        ensures made { IfOk result (λ body. (p : Program) (k : Clause) → C.stands (code_nodes self.old) code.now p → slice_get p.clauses clause ≡ Some k
+            → IsBodyOver k depth variables.items self.old.heap self.new.heap body) }
+        ensures valid { IfOk result (λ body. AllValidAt self.new.heap (option_to_list body) depth) }
+        ensures variables { OnOk result (self.new.heap.depths ≡ self.old.heap.depths) }
+        ensures grows { Grows self.old.heap self.new.heap [] [] }
+        ensures rest { LeavesRest self.old self.new }
+    {
+        self.heap.is_sound();
+        code.body(self.alloc, &mut self.heap, clause, depth, variables)
     }
 
     /// The clauses that a term assumes.
@@ -224,6 +278,7 @@ impl Stage {
         ensures grows { Grows self.old.heap self.new.heap [] [] }
         ensures rest { LeavesRest self.old self.new }
     {
+        self.heap.is_sound();
         compile_hyp(self.alloc, &mut self.heap, t, depth)
     }
 
@@ -262,6 +317,7 @@ impl Stage {
         ensures grows { Grows self.old.heap self.new.heap [] [] }
         ensures rest { LeavesRest self.old self.new }
     {
+        self.heap.is_sound();
         applied_to_variable(self.alloc, &mut self.heap, f, depth)
     }
 
@@ -282,7 +338,9 @@ impl Stage {
         ensures grows { Growing self.old.heap self.new.heap }
         ensures rest { LeavesRest self.old self.new }
     {
-        call_builtin(
+        let noted = self.trail.mark();
+        self.heap.is_sound();
+        let answer = call_builtin(
             self.alloc,
             &mut self.heap,
             &mut self.trail,
@@ -291,7 +349,9 @@ impl Stage {
             args,
             depth,
             events,
-        )
+        );
+        self.store.follow(&self.heap, self.trail.since(noted));
+        answer
     }
 
     /// Makes an argument of a clause equal to one of an atom, by assignments of variables that aren't
@@ -313,7 +373,9 @@ impl Stage {
         ensures grows { Growing self.old.heap self.new.heap }
         ensures rest { LeavesRest self.old self.new }
     {
-        match_arg(
+        let before = self.trail.mark();
+        self.heap.is_sound();
+        let answer = match_arg(
             self.alloc,
             &mut self.heap,
             &mut self.trail,
@@ -321,17 +383,80 @@ impl Stage {
             arg,
             depth,
             first_fresh,
-        )
+        );
+        self.store.follow(&self.heap, self.trail.since(before));
+        answer
     }
 
-    /// Lets a visitor look at the query's variables, and takes back what it makes.
+    /// No nodes. Takes no memory.
+    pub(crate) fn no_terms(&self) -> TermIds
+        ensures { result ≡ [] }
+    {
+        TermIds::new(self.alloc)
+    }
+
+    /// No goals. Takes no memory.
+    pub(crate) fn no_goals(&self) -> Vec<Frame>
+        ensures { result.items ≡ [] }
+    {
+        Vec::new(self.alloc)
+    }
+
+    /// Puts a suspended goal last into the store.
+    pub(crate) fn suspend_goal(&mut self, c: Constraint<Context>) -> Result<(), AllocError>
+        ensures ok { OnOk result (self.new ≡ record self.old { log = joins c ∷ self.old.log }) }
+        ensures err { OnErr result (self.new ≡ self.old) }
+    {
+        self.store.add(c)?;
+        Ok(())
+    }
+
+    /// The number of the first awake constraint, if there is one. Only what is to be looked at is.
+    pub(crate) fn awake(&mut self) -> Result<Option<u64>, AllocError>
+        requires { Keyed self.old.log self.old.heap }
+        ensures first { IfOk result (λ o. o ≡ first_awake self.old.heap (stored self.old.log)) }
+        ensures variables { self.new.heap.depths ≡ self.old.heap.depths }
+        ensures grows { Grows self.old.heap self.new.heap [] [] }
+        ensures rest { LeavesRest self.old self.new }
+    {
+        self.store.awake(&mut self.heap)
+    }
+
+    /// Takes a constraint out of the store, and answers its goal, with this barrier and no goals after it.
+    pub(crate) fn withdraw(&mut self, id: u64, barrier: usize) -> Result<Frame, AllocError>
+        requires { is_stored self.old.log id ≡ true }
+        ensures goal { IfOk result (λ f. (c : Constraint (List Hyp)) × (stored_at (stored self.old.log) id ≡ Some c)
+            × (f ≡ record { depth = c.names; barrier = barrier; term = c.goal; next = 0; context = c.context })) }
+        ensures ok { OnOk result (self.new ≡ record self.old { log = leaves id ∷ self.old.log }) }
+        ensures err { OnErr result (self.new ≡ self.old) }
+    {
+        let constraint = self.store.get(id);
+        let goal = Frame {
+            depth: constraint.names,
+            barrier,
+            term: constraint.goal,
+            next: 0,
+            context: constraint.context.copy()?,
+        };
+        self.store.remove(id)?;
+        Ok(goal)
+    }
+
+    /// Lets a visitor look at the query's variables and the suspended goals, and takes back what it
+    /// makes.
     pub(crate) fn visit<V: Visitor>(&mut self, visitor: &mut V) -> Result<(), AllocError>
-        requires { AllValidAt self.old.heap self.old.query 0 }
-        ensures sees { OnOk result (V.sees visitor.old (all_read self.old.heap self.old.query) visitor.new) }
+        requires query { AllValidAt self.old.heap self.old.query 0 }
+        requires constraints { AllConstraints self.old.heap (stored self.old.log) }
+        ensures sees { OnOk result (V.sees visitor.old (all_read self.old.heap self.old.query) (map (constraint_in self.old.heap) (stored self.old.log)) visitor.new) }
         ensures same { self.new ≡ self.old }
     {
         let mark = self.mark();
-        let seen = visitor.visit(self.alloc, &mut self.heap, self.query.as_slice());
+        let seen = visitor.visit(
+            self.alloc,
+            &mut self.heap,
+            self.query.as_slice(),
+            &self.store,
+        );
         self.undo(mark);
         seen
     }

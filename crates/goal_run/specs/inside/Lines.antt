@@ -7,7 +7,9 @@ use Rattle.term_print.specs.Written.{Prints}
 use Rattle.term_print.specs.Pieces.{page}
 use Rattle.lp_resolve.specs.declared.query.QueryVar.{QueryVar}
 use Rattle.lp_resolve.specs.Plain.{plain_variable}
+use Rattle.ref_terms.specs.search.Branch.{Constraint}
 use Rattle.goal_run.specs.declared.page.Page.{Page}
+use Rattle.goal_run.specs.inside.Suspended.{suspended_lines}
 
 -- the line of a variable with its term
 abbrev pub value_line : List (List ℕ) → (name : ℕ) → Term → List Part
@@ -21,6 +23,6 @@ lines_of table vs ts = variable_lines table (map plain_variable vs) ts
 abbrev pub Adds : (text seen : List ℕ) → List Part → (text' seen' : List ℕ) → Type 0
 Adds text seen ps text' seen' = Prints (page text seen) ps (page text' seen') []
 
--- the lines of the query's variables with these terms were put last
-abbrev pub Writes : Page → List Term → Page → Type 0
-Writes old ts new = Adds old.text old.namer (lines_of old.symbols.now old.variables.now ts) new.text new.namer
+-- the lines of the query's variables with these terms, and those of these constraints, were put last
+abbrev pub Writes : Page → List Term → List Constraint → Page → Type 0
+Writes old ts cs new = Adds old.text old.namer (lines_of old.symbols.now old.variables.now ts ++ suspended_lines old.symbols.now cs) new.text new.namer

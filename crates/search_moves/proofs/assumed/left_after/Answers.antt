@@ -16,4 +16,4 @@ returns-in_ok-next-in-Some-clause-after g c = λ ns p b h hs stands e d.
 pub returns-in-None-clause-after : goal.returns-in-None-clause-after
 returns-in-None-clause-after g c = λ ns p b h hs stands e d.
     subst (IsLeftAfter p b c.args.c (later_of p b.goals c.args.c.0 (Assumptions (suc c.args.place) c.args.others.now))) (sym c.from_clause.ensures)
-    (after-none p b c.args.c h hs c.args.others.now (suc c.args.place) c.next_clause.result e d (match-none c.in_ok-found.found (c.args.others.now ≡ []) (λ t. (t ≡ c.args.others.now) × (t ≡ [] → ⊥)) c.in-None.is c.in_ok-found.ensures) (c.next_clause.ensures ns p stands))
+    (after-none p b c.args.c h hs c.args.others.now (suc c.args.place) c.first_clause.result e d (match-none c.in_ok-found.found (c.args.others.now ≡ []) (λ t. (t ≡ c.args.others.now) × (t ≡ [] → ⊥)) c.in-None.is c.in_ok-found.ensures) (c.first_clause.ensures ns p stands))

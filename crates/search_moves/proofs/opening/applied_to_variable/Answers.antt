@@ -1,4 +1,4 @@
-use Rattle.std.proofs.Common.{◌≡◌, ◌<◌, ◌∷◌, [], length, sym, ap, ap₂, ◌∙◌, arith, length-append}
+use Rattle.std.proofs.Common.{◌∷◌, [], length, ap, ap₂, ◌∙◌, arith, length-append}
 use Rattle.level_terms.proofs.GrowthLemmas.{grows-trans}
 use Rattle.level_terms.proofs.MakeLemmas.{new-var}
 use Rattle.level_terms.proofs.ReadLemmas.{valid-below}

@@ -3,7 +3,7 @@ use Rattle.std.specs.Prelude.{slice_get}
 use Rattle.ref_terms.specs.search.Program.{Program, Clause}
 use Rattle.clause_compile.specs.Programs.{IsCode}
 use Rattle.search_moves.specs.World.{oldest}
-use Rattle.search_moves.specs.Calling.{IsInstanceOf}
+use Rattle.search_moves.specs.Instances.{IsInstanceOf}
 use Rattle.goal_run.specs.inside.Code.{Stands}
 use Rattle.goal_run.proofs.CodeLemmas.{if-ok}
 use Rattle.goal_run.proofs.clauses.ProgramCodeClauses.instance.Goals as goal

@@ -1,4 +1,4 @@
-use Rattle.std.proofs.Common.{◌≡◌, ◌∙◌, ap, sym, subst}
+use Rattle.std.proofs.Common.{◌∙◌, ap, sym, subst}
 use Rattle.goal_form.specs.Builtins.{builtin_word}
 use Rattle.beta_fragment.specs.HeadForm.{AllValidAt}
 use Rattle.ref_terms.specs.search.Formula.{reserved_goal}

@@ -1,4 +1,4 @@
-use Rattle.std.proofs.Common.{◌≡◌, ◌∙◌, ◌∷◌, refl, sym, ap, subst}
+use Rattle.std.proofs.Common.{◌≡◌, ◌∙◌, ◌∷◌, refl, sym, subst}
 use Rattle.level_terms.specs.Valid.{IsValid}
 use Rattle.ref_terms.specs.search.Branch.{with_goals}
 use Rattle.search_moves.specs.declared.frame.Frame.{Frame}

@@ -1,5 +1,5 @@
-use Rattle.std.proofs.Common.{refl}
 use Rattle.search_moves.proofs.GrowLemmas.{made-clashes}
+use Rattle.search_moves.proofs.RestLemmas.{leaves-refl}
 use Rattle.search_moves.proofs.SolveLemmas.{growing-refl}
 use Rattle.search_moves.proofs.machine.Machine.fit.Goals as goal
 
@@ -10,4 +10,4 @@ pub returns-then-heads-call-clause-grows : goal.returns-then-heads-call-clause-g
 returns-then-heads-call-clause-grows c = growing-refl c.args.self.now.world.heap
 
 pub returns-then-heads-call-clause-rest : goal.returns-then-heads-call-clause-rest
-returns-then-heads-call-clause-rest c = record { frames = refl; path = refl; query = refl; base = refl }
+returns-then-heads-call-clause-rest c = leaves-refl c.args.self.now.world

@@ -2,7 +2,7 @@ use Rattle.std.proofs.Common.{◌≡◌, ◌<◌, Some, IfOk, length, slice_get,
 use Rattle.ref_terms.specs.search.Program.{Program, Clause}
 use Rattle.search_moves.specs.World.{code_nodes}
 use Rattle.search_moves.specs.Machine.{alternatives_of}
-use Rattle.search_moves.specs.Calling.{IsInstanceOf}
+use Rattle.search_moves.specs.Instances.{IsInstanceOf}
 use Rattle.search_moves.proofs.CodeLemmas.{code-grown}
 use Rattle.search_moves.proofs.SavedLemmas.{all-kept, all-read-kept}
 use Rattle.search_moves.proofs.GrowLemmas.{grow-keeps, grow-fine, no-notes}

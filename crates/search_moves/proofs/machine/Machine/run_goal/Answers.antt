@@ -23,6 +23,6 @@ returns-clause-moved g c =
     if-ok c.move_by.result
     (λ (e : Event). (p : Program) → g.C.Clauses.stands (code_nodes m.world) c.args.code.now p → p.symbols ≡ c.args.symbols.now → HasMoved p (move_of p m f (kind_in m.world.heap k)) e new)
     (λ (e : Event). (p : Program) → g.C.Clauses.stands (code_nodes old.world) c.args.code.now p → p.symbols ≡ c.args.symbols.now → p.rules ≡ [] → HasMoved p (next unify p (state_of p old)) e new)
-    (λ e h p stands known none. goal-moved p old m new f (kind_in m.world.heap k) e none c.requires.running c.requires.first c.kind.ensures.first c.kind.ensures.goal c.kind.ensures.branch (c.kind.ensures.alternatives p) (sym c.in_ok-kind.ensures.kind.0)
+    (λ e h p stands known none. goal-moved p old m new f (kind_in m.world.heap k) e none c.requires.asleep c.requires.running c.requires.first c.kind.ensures.first c.kind.ensures.goal c.kind.ensures.branch (c.kind.ensures.alternatives p) (sym c.in_ok-kind.ensures.kind.0)
     (h p (subst (λ (ns : List Node). g.C.Clauses.stands ns c.args.code.now p) (sym c.kind.ensures.code) stands) known))
     c.move_by.ensures.moved

@@ -1,6 +1,6 @@
 use Rattle.std.proofs.Common.{◌≡◌, ◌∷◌, [], ◌∙◌, suc, drop, IfSome, List, sym, ap, subst, arith, length, length-append}
 use Rattle.level_terms.specs.declared.node.TermId.{TermId}
-use Rattle.beta_fragment.specs.HeadForm.{AllValidAt}
+use Rattle.beta_fragment.specs.HeadForm.{all_read, AllValidAt}
 use Rattle.hyp_clause.specs.Hyps.{assumption_in}
 use Rattle.hyp_clause.specs.declared.hyp.Hyp.{Hyp}
 use Rattle.hyp_context.specs.Contexts.{hyps_for}
@@ -18,8 +18,8 @@ use Rattle.search_moves.proofs.AssumedLemmas.{drop-step, hyp-there}
 use Rattle.search_moves.proofs.CallMoves.{assumed-first}
 use Rattle.search_moves.proofs.FrameLemmas.{all-valid-grown}
 use Rattle.search_moves.proofs.SolveLemmas.{picked-true, picked-false}
-use Rattle.search_moves.proofs.GrowLemmas.{first-grown, no-notes, if-some}
-use Rattle.search_moves.proofs.EnterLemmas.{HasMade, clause-clashes, clause-breaks, clause-fits, saved-both, gone-back, call-left, first-same, with_body, body-same, later-left}
+use Rattle.search_moves.proofs.GrowLemmas.{if-some}
+use Rattle.search_moves.proofs.EnterLemmas.{HasMade, clause-clashes, clause-breaks, clause-fits, saved-both, gone-back, call-left, first-after, terms-same, body-early, later-left}
 use Rattle.search_moves.proofs.machine.Machine.try_assumption.Goals as goal
 
 pub assumed_instance-requires-clause-usable : goal.assumed_instance-requires-clause-usable
@@ -34,7 +34,7 @@ assumed_instance-requires-clause-valid g c =
 
 pub fit-requires-clause-heads : goal.fit-requires-clause-heads
 fit-requires-clause-heads g c =
-    subst (λ (ts : List TermId). AllValidAt c.assumed_instance.new.self.world.heap ts c.args.call.now.goal.now.depth) (sym c.as_slice.ensures.value) c.in_ok-made.ensures.made.heads_valid
+    subst (λ (ts : List TermId). AllValidAt c.assumed_instance.new.self.world.heap ts c.args.call.now.goal.now.depth) (sym c.as_slice.ensures.value) c.in_ok-made.ensures.made.head.heads_valid
 
 pub fit-requires-clause-args : goal.fit-requires-clause-args
 fit-requires-clause-args g c =
@@ -63,10 +63,8 @@ leave_rest-requires g c =
 
 pub enter_all-requires-clause-first : goal.enter_all-requires-clause-first
 enter_all-requires-clause-first g c =
-    let f = c.args.call.now.goal.now in
-    let one = first-grown c.args.self.now c.assumed_instance.new.self f c.assumed_instance.ensures.first c.is_fine.ensures.sound (no-notes c.args.self.now.world.heap c.assumed_instance.new.self.world.heap c.assumed_instance.ensures.grows) c.assumed_instance.ensures.rest c.requires.call.first in
-    let two = first-grown c.assumed_instance.new.self c.fit.new.self f c.fit.ensures.first c.fit.ensures.sound c.fit.ensures.grows c.fit.ensures.rest one in
-    first-same c.fit.new.self c.leave_rest.new.self f c.leave_rest.ensures.world c.leave_rest.ensures.first two
+    first-after c.args.self.now c.assumed_instance.new.self c.fit.new.self c.leave_rest.new.self c.args.call.now.goal.now c.is_fine.ensures.sound c.assumed_instance.ensures.first c.assumed_instance.ensures.grows c.assumed_instance.ensures.rest
+    c.fit.ensures.sound c.fit.ensures.first c.fit.ensures.grows c.fit.ensures.rest c.leave_rest.ensures.world c.leave_rest.ensures.first c.requires.call.first
 
 pub enter_all-requires-clause-body : goal.enter_all-requires-clause-body
 enter_all-requires-clause-body g c =
@@ -81,9 +79,9 @@ returns-in-Ok-false-clause-answer g c = λ p modes stands inputs.
     let call = c.args.call.now in
     let heads = c.in_ok-made.made.heads.items in
     let candidate = of_assumption c.args.place (assumption_in c.args.self.now.world.heap c.args.hyp.now) in
-    let has : HasMade c.args.self.now c.assumed_instance.new.self call candidate heads c.in_ok-made.made.body.items =
-    record { fine = c.is_fine.ensures.fine; sound = c.is_fine.ensures.sound; is_call = c.requires.call; grows = c.assumed_instance.ensures.grows; rest = c.assumed_instance.ensures.rest; same = c.assumed_instance.ensures.first; instance = c.in_ok-made.ensures.made } in
-    clause-clashes c.args.self.now c.assumed_instance.new.self call candidate heads c.in_ok-made.made.body.items has modes inputs
+    let has : HasMade c.args.self.now c.assumed_instance.new.self call candidate heads =
+    record { fine = c.is_fine.ensures.fine; sound = c.is_fine.ensures.sound; is_call = c.requires.call; grows = c.assumed_instance.ensures.grows; rest = c.assumed_instance.ensures.rest; same = c.assumed_instance.ensures.first; head = c.in_ok-made.ensures.made.head } in
+    clause-clashes c.args.self.now c.assumed_instance.new.self call candidate heads has modes inputs
     (subst (λ n. HasClashed n call.goal.now.depth call.inputs.now heads call.args.now c.assumed_instance.new.self.world.heap) c.next_var-first_fresh.ensures
     (subst (λ hs. HasClashed c.next_var-first_fresh.result.index call.goal.now.depth call.inputs.now hs call.args.now c.assumed_instance.new.self.world.heap) c.as_slice.ensures.value
     (picked-false _ _ c.in-Ok-false.field-0 c.in-Ok-false.field-0-test c.in-Ok-false.ensures.answer)))
@@ -99,9 +97,9 @@ returns-in-Err-clause-stops g c = λ modes inputs.
     let call = c.args.call.now in
     let heads = c.in_ok-made.made.heads.items in
     let candidate = of_assumption c.args.place (assumption_in c.args.self.now.world.heap c.args.hyp.now) in
-    let has : HasMade c.args.self.now c.assumed_instance.new.self call candidate heads c.in_ok-made.made.body.items =
-    record { fine = c.is_fine.ensures.fine; sound = c.is_fine.ensures.sound; is_call = c.requires.call; grows = c.assumed_instance.ensures.grows; rest = c.assumed_instance.ensures.rest; same = c.assumed_instance.ensures.first; instance = c.in_ok-made.ensures.made } in
-    clause-breaks c.args.self.now c.assumed_instance.new.self call candidate heads c.in_ok-made.made.body.items has modes inputs c.in-Err.stop
+    let has : HasMade c.args.self.now c.assumed_instance.new.self call candidate heads =
+    record { fine = c.is_fine.ensures.fine; sound = c.is_fine.ensures.sound; is_call = c.requires.call; grows = c.assumed_instance.ensures.grows; rest = c.assumed_instance.ensures.rest; same = c.assumed_instance.ensures.first; head = c.in_ok-made.ensures.made.head } in
+    clause-breaks c.args.self.now c.assumed_instance.new.self call candidate heads has modes inputs c.in-Err.stop
     (subst (λ n. HasBroken n call.goal.now.depth call.inputs.now heads call.args.now c.assumed_instance.new.self.world.heap c.in-Err.stop) c.next_var-first_fresh.ensures
     (subst (λ hs. HasBroken c.next_var-first_fresh.result.index call.goal.now.depth call.inputs.now hs call.args.now c.assumed_instance.new.self.world.heap c.in-Err.stop) c.as_slice.ensures.value
     c.in-Err.ensures.stops))
@@ -116,8 +114,8 @@ returns-clause-answer g c = λ p modes stands inputs.
     let heads = c.in_ok-made.made.heads.items in
     let body = c.in_ok-made.made.body.items in
     let candidate = of_assumption c.args.place (assumption_in m0.world.heap c.args.hyp.now) in
-    let has : HasMade m0 m1 call candidate heads body =
-    record { fine = c.is_fine.ensures.fine; sound = c.is_fine.ensures.sound; is_call = c.requires.call; grows = c.assumed_instance.ensures.grows; rest = c.assumed_instance.ensures.rest; same = c.assumed_instance.ensures.first; instance = c.in_ok-made.ensures.made } in
+    let has : HasMade m0 m1 call candidate heads =
+    record { fine = c.is_fine.ensures.fine; sound = c.is_fine.ensures.sound; is_call = c.requires.call; grows = c.assumed_instance.ensures.grows; rest = c.assumed_instance.ensures.rest; same = c.assumed_instance.ensures.first; head = c.in_ok-made.ensures.made.head } in
     let fitted : HasFitted (length m0.world.heap.depths) call.goal.now.depth call.inputs.now heads call.args.now m1 m2 =
     subst (λ n. HasFitted n call.goal.now.depth call.inputs.now heads call.args.now m1 m2) c.next_var-first_fresh.ensures
     (subst (λ hs. HasFitted c.next_var-first_fresh.result.index call.goal.now.depth call.inputs.now hs call.args.now m1 m2) c.as_slice.ensures.value
@@ -131,8 +129,11 @@ returns-clause-answer g c = λ p modes stands inputs.
     let left : IsLeftAfter p (branch_of m0) pred cs c.in_ok-later.later =
     c.in_ok-later.ensures.after _ p (branch_of m0) m0.world.heap call.goal.now.context stands (assumed-first m0 call.goal.now c.requires.call.first) others in
     record {
-      fits = clause-fits m0 m1 call candidate heads body has m2 c.fit.ensures.sound fitted c.fit.ensures.grows c.fit.ensures.rest c.fit.ensures.first modes inputs _
-          (c.in_ok-enter_all.ensures.branch ∙ ap (λ ts. with_body c.leave_rest.new.self.world c.leave_rest.new.self.first call.goal.now c.alternatives-barrier.result ts (ByAssumption c.args.place)) c.as_slice-2.ensures.value ∙ body-same m2 c.leave_rest.new.self call.goal.now (length m0.saved) c.alternatives-barrier.result body (ByAssumption c.args.place) c.leave_rest.ensures.world c.leave_rest.ensures.first c.alternatives-barrier.ensures);
+      fits = clause-fits m0 m1 call candidate heads has m2 c.fit.ensures.sound fitted c.fit.ensures.grows c.fit.ensures.rest c.fit.ensures.first modes inputs (all_read m2.world.heap body)
+          (body-early m0 m1 call candidate heads has m2 c.fit.ensures.sound fitted c.fit.ensures.grows c.fit.ensures.rest c.fit.ensures.first body c.in_ok-made.ensures.made.body c.in_ok-made.ensures.made.body_valid) _
+          (c.in_ok-enter_all.ensures.branch
+          ∙ terms-same m2 c.leave_rest.new.self call.goal.now (length m0.saved) c.alternatives-barrier.result (all_read m2.world.heap body) _ (ByAssumption c.args.place) c.leave_rest.ensures.world c.leave_rest.ensures.first c.alternatives-barrier.ensures
+          (ap (all_read c.leave_rest.new.self.world.heap) c.as_slice-2.ensures.value ∙ ap (λ w. all_read w.heap body) c.leave_rest.ensures.world));
       alternatives = later-left p m0 m1 m2 c.leave_rest.new.self c.enter_all.new.self pred c.here-first.result.0 c.here-first.result.1 cs c.in_ok-later.later left
           c.here-first.ensures.mark c.here-first.ensures.first can
           c.assumed_instance.ensures.grows c.assumed_instance.ensures.rest c.fit.ensures.grows c.fit.ensures.rest (c.assumed_instance.ensures.alternatives p) (c.fit.ensures.alternatives p) (c.in_ok-leave_rest.ensures.alternatives p) (c.enter_all.ensures.alternatives p);

@@ -1,4 +1,10 @@
-use Rattle.std.proofs.Common.{reverse, refl, sym, ap, ◌∙◌, subst}
+use Rattle.std.proofs.Common.{◌≡◌, ℕ, [], reverse, refl, sym, ap, ◌∙◌, subst}
+use Rattle.level_terms.specs.Reading.{read}
+use Rattle.level_terms.specs.Valid.{IsValid}
+use Rattle.level_terms.proofs.ReadLemmas.{valid-below}
+use Rattle.level_terms.proofs.ValidLemmas.{growth_keeps_readings}
+use Rattle.beta_fragment.specs.Names.{names}
+use Rattle.search_moves.proofs.FrameLemmas.{valid-grown}
 use Rattle.search_moves.specs.Machine.{Machine, alternatives_of, branch_of, IsFirst}
 use Rattle.search_moves.specs.World.{code_nodes}
 use Rattle.search_moves.proofs.CodeLemmas.{code-grown}
@@ -46,3 +52,17 @@ pub returns-clause-code : goal.returns-clause-code
 returns-clause-code c =
     code-grown c.self.inside.stage c.whnf.new.self c.self.inside.first (no-notes c.self.inside.stage.heap c.whnf.new.self.heap c.whnf.ensures.grows) c.whnf.ensures.rest c.self.invariant.fine
     ∙ ap (λ m. code_nodes m.world) c.self.view_is
+
+pub returns-clause-readings : goal.returns-clause-readings
+returns-clause-readings c =
+    let g = c.self.inside.stage.heap in
+    let h = c.whnf.new.self.heap in
+    subst (λ m. (i : ℕ) (d : ℕ) → IsValid m.world.heap i d → read h i names ≡ read m.world.heap i names) c.self.view_is
+    (λ i d v. growth_keeps_readings g h i names c.is_sound.ensures c.whnf.ensures.grows (valid-below g i d v))
+
+pub returns-clause-valid : goal.returns-clause-valid
+returns-clause-valid c =
+    let g = c.self.inside.stage.heap in
+    let h = c.whnf.new.self.heap in
+    subst (λ m. (i : ℕ) (d : ℕ) → IsValid m.world.heap i d → IsValid h i d) c.self.view_is
+    (λ i d v. valid-grown g h [] [] i d c.is_sound.ensures c.whnf.ensures.grows v)

@@ -4,7 +4,10 @@ use Rattle.level_terms.proofs.GrowthLemmas.{grows-trans}
 use Rattle.hyp_clause.specs.Hyps.{assumption_in, IsHypValid}
 use Rattle.ref_terms.specs.search.Instance.{assumption_instance}
 use Rattle.search_moves.specs.World.{IsUsable}
-use Rattle.search_moves.specs.Calling.{IsMadeOf}
+use Rattle.search_moves.specs.Instances.{IsMadeOf}
+use Rattle.search_moves.specs.Moves.{LeavesRest}
+use Rattle.search_moves.specs.StageView.{world_of}
+use Rattle.search_moves.proofs.RestLemmas.{leaves-grown}
 use Rattle.search_moves.proofs.AssumedLemmas.{one-valid, made-assumed}
 use Rattle.search_moves.proofs.stage.Stage.assumed_instance.Goals as goal
 
@@ -33,3 +36,23 @@ pub returns-clause-grows : goal.returns-clause-grows
 returns-clause-grows c =
     subst (λ w. Grows w.heap c.hyp_body_of.new.heap [] []) c.self.view_is
     (grows-trans c.self.inside.heap c.hyp_head_of.new.heap c.hyp_body_of.new.heap [] [] [] c.hyp_head_of.ensures.grows c.hyp_body_of.ensures.grows)
+
+pub returns-in_err-head-clause-rest : goal.returns-in_err-head-clause-rest
+returns-in_err-head-clause-rest c =
+    let w = world_of c.self.inside in
+    let h = c.hyp_head_of.new.heap in
+    subst (λ z. LeavesRest z (record w { heap = h })) c.self.view_is (leaves-grown w h c.is_sound.ensures c.hyp_head_of.ensures.grows)
+
+pub returns-in_err-body-clause-rest : goal.returns-in_err-body-clause-rest
+returns-in_err-body-clause-rest c =
+    let w = world_of c.self.inside in
+    let h = c.hyp_body_of.new.heap in
+    subst (λ z. LeavesRest z (record w { heap = h })) c.self.view_is
+    (leaves-grown w h c.is_sound.ensures (grows-trans w.heap c.hyp_head_of.new.heap h [] [] [] c.hyp_head_of.ensures.grows c.hyp_body_of.ensures.grows))
+
+pub returns-clause-rest : goal.returns-clause-rest
+returns-clause-rest c =
+    let w = world_of c.self.inside in
+    let h = c.hyp_body_of.new.heap in
+    subst (λ z. LeavesRest z (record w { heap = h })) c.self.view_is
+    (leaves-grown w h c.is_sound.ensures (grows-trans w.heap c.hyp_head_of.new.heap h [] [] [] c.hyp_head_of.ensures.grows c.hyp_body_of.ensures.grows))

@@ -3,6 +3,7 @@ use Rattle.pattern_unify.specs.Answers.{AnswersTrue, AnswersFalse}
 use Rattle.search_moves.specs.Solving.{problem_of_all}
 use Rattle.search_moves.specs.Matching.{HeadFits, HeadClashes}
 use Rattle.search_moves.proofs.FrameLemmas.{all-valid-grown}
+use Rattle.search_moves.proofs.RestLemmas.{leaves-trans}
 use Rattle.search_moves.proofs.SolveLemmas.{growing-trans, picked-true}
 use Rattle.search_moves.proofs.HeadLemmas.{outputs-clash, outputs-stop, outputs-fit, both-ways}
 use Rattle.search_moves.proofs.stage.Stage.match_head.Goals as goal
@@ -39,3 +40,9 @@ returns-in-Err-solve-clause-stops c =
 
 pub returns-in-Err-solve-clause-grows : goal.returns-in-Err-solve-clause-grows
 returns-in-Err-solve-clause-grows c = growing-trans c.args.self.now.heap c.solve.new.self.heap c.solve-2.new.self.heap c.solve.ensures.grows c.solve-2.ensures.grows
+
+pub returns-in-Ok-clause-rest : goal.returns-in-Ok-clause-rest
+returns-in-Ok-clause-rest c = leaves-trans c.args.self.now c.solve.new.self c.solve-2.new.self c.solve.ensures.rest c.solve-2.ensures.rest
+
+pub returns-in-Err-solve-clause-rest : goal.returns-in-Err-solve-clause-rest
+returns-in-Err-solve-clause-rest c = leaves-trans c.args.self.now c.solve.new.self c.solve-2.new.self c.solve.ensures.rest c.solve-2.ensures.rest

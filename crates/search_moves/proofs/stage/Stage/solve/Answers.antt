@@ -1,6 +1,7 @@
 use Rattle.std.proofs.Common.{◌≡◌, suc, ◌+◌, true, false, sym, ◌∙◌, subst, arith, slice_index_or}
 use Rattle.std.specs.Cmp.{booleans_Decides}
 use Rattle.search_moves.specs.World.{World}
+use Rattle.search_moves.proofs.RestLemmas.{leaves-trans}
 use Rattle.search_moves.specs.Solving.{IsUnderway}
 use Rattle.search_moves.proofs.SolveLemmas.{underway-starts, head-valid, arg-valid, underway-skips, underway-goes, underway-clashes, underway-stops, underway-ends, in_modes, in_heads, past, growing-trans, picked-true, picked-false}
 use Rattle.search_moves.proofs.stage.Stage.solve.Goals as goal
@@ -30,6 +31,12 @@ returns-in-Err-clause-stops c =
 
 pub returns-in-Err-clause-grows : goal.returns-in-Err-clause-grows
 returns-in-Err-clause-grows c = growing-trans c.args.self.now.heap c.loop-i.self.heap c.match_arg.new.self.heap c.loop-i.invariant.solving.grows c.match_arg.ensures.grows
+
+pub returns-in-Ok-false-clause-rest : goal.returns-in-Ok-false-clause-rest
+returns-in-Ok-false-clause-rest c = leaves-trans c.args.self.now c.loop-i.self c.match_arg.new.self c.loop-i.invariant.rest c.match_arg.ensures.rest
+
+pub returns-in-Err-clause-rest : goal.returns-in-Err-clause-rest
+returns-in-Err-clause-rest c = leaves-trans c.args.self.now c.loop-i.self c.match_arg.new.self c.loop-i.invariant.rest c.match_arg.ensures.rest
 
 pub loop-i-preserved : goal.loop-i-preserved
 loop-i-preserved c =

@@ -13,4 +13,5 @@ returns c =
     let heap = c.undo.ensures.heap in
     let frames = ap reverse c.truncate.ensures.items ∙ reverse-oldest c.args.m.frames fs few in
     let path = ap reverse c.truncate-2.ensures.items ∙ reverse-oldest c.args.m.path ps short in
-    (λ i. record { heap = heap i; frames = frames i; path = path i; query = c.self.inside.query.items; base = c.self.inside.base }) ∙ ap (undone c.args.m) c.self.view_is
+    let log = c.undo-2.ensures.log in
+    (λ i. record { heap = heap i; frames = frames i; path = path i; log = log i; query = c.self.inside.query.items; base = c.self.inside.base }) ∙ ap (undone c.args.m) c.self.view_is

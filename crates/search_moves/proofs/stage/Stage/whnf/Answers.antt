@@ -1,0 +1,11 @@
+use Rattle.std.proofs.Common.{subst}
+use Rattle.search_moves.specs.Moves.{LeavesRest}
+use Rattle.search_moves.specs.StageView.{world_of}
+use Rattle.search_moves.proofs.RestLemmas.{leaves-grown}
+use Rattle.search_moves.proofs.stage.Stage.whnf.Goals as goal
+
+pub returns-clause-rest : goal.returns-clause-rest
+returns-clause-rest c =
+    let w = world_of c.self.inside in
+    let h = c.whnf.new.heap in
+    subst (λ z. LeavesRest z (record w { heap = h })) c.self.view_is (leaves-grown w h c.is_sound.ensures c.whnf.ensures.grows)
