@@ -27,6 +27,7 @@ pub mod ConstantLemmas
 pub mod CallMoves
 pub mod AssumeTries
 pub mod TryLemmas
+pub mod PassLemmas
 pub mod QuantifierMoves
 pub mod VariableLemmas
 pub mod BuiltinMoves
