@@ -28,6 +28,7 @@ pub mod CallMoves
 pub mod AssumeTries
 pub mod TryLemmas
 pub mod PassLemmas
+pub mod LeanLemmas
 pub mod QuantifierMoves
 pub mod VariableLemmas
 pub mod BuiltinMoves

@@ -1,5 +1,5 @@
 -- Assumptions that the key of a call passes over.
-use Rattle.std.proofs.Common.{◌≡◌, ℕ, suc, Bool, true, false, cond, ◌||◌, nat_eq, List, [], ◌∷◌, map, length, Option, Some, unwrap_or, replicate, refl, sym, ap, ap₂, ◌∙◌, eqb-true}
+use Rattle.std.proofs.Common.{◌≡◌, ℕ, suc, Bool, true, false, cond, not, ◌||◌, nat_eq, List, [], ◌∷◌, map, length, Option, Some, unwrap_or, replicate, refl, sym, ap, ap₂, ◌∙◌, eqb-true}
 use Rattle.std.specs.List.{list_any}
 use Rattle.std.proofs.lemmas.List.{length-map}
 use Rattle.level_terms.specs.Graph.{Graph}
@@ -77,3 +77,8 @@ pub none-assumed : (p : Program) (m : Machine) (f : Frame) (c i : ℕ) (hs : Lis
 none-assumed p m f c i [] first head clash = refl
 none-assumed p m f c i (h ∷ hs) first head clash =
     ap₂ (λ a b. a || b) (closed-here p m f c (of_assumption i (assumption_in m.world.heap h)) first head (clash.0 i 0)) (none-assumed p m f c (suc i) hs first head clash.1)
+
+-- a test that is not held
+pub not-held : (b : Bool) → not b ≡ true → b ≡ false
+not-held true e = absurd (let z : false ≡ true = e in cc)
+not-held false e = refl

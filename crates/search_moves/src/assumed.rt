@@ -212,6 +212,41 @@ impl Machine {
     }
 
     /// Tries assumptions of the call's constant, of which the first has this place, and then the
+    /// program's clauses, by the key of the call, and answers whether one fits. Where all clash, all is
+    /// as before.
+    fn resolve_by<C: Clauses>(
+        &mut self,
+        code: &C,
+        call: &Call<'_>,
+        key: Key,
+        place: usize,
+        hyps: HypIter<'_>,
+    ) -> Result<bool, UnifyStop>
+        requires code { (p : Program) × (C.stands (code_nodes self.old.world) code.now p) }
+        requires call { IsCall self.old call.now }
+        requires key { key ≡ key_of_call self.old.world.heap call.now }
+        requires left { hyps ≡ drop place (hyps_for call.now.pred.0 call.now.goal.now.context) }
+        ensures answer { IfOk result (λ b. (p : Program) → C.stands (code_nodes self.old.world) code.now p → HasInputs call.now (modes_of p call.now.pred.0) → MatchBool b
+            (HasResolvedLater p self.old self.new call.now.goal.now call.now.pred.0 (LaterVariants.Assumptions place hyps.entry) (modes_of p call.now.pred.0))
+            (resolved_later p self.old call.now.goal.now call.now.pred.0 (LaterVariants.Assumptions place hyps.entry) (modes_of p call.now.pred.0) ≡ None)) }
+        ensures same { IfOk result (λ b. b ≡ false → self.new ≡ self.old) }
+        ensures stops { IfErr result (λ stop. (p : Program) → C.stands (code_nodes self.old.world) code.now p → HasInputs call.now (modes_of p call.now.pred.0)
+            → ResolvedStops (resolved_later p self.old call.now.goal.now call.now.pred.0 (LaterVariants.Assumptions place hyps.entry) (modes_of p call.now.pred.0)) stop) }
+        ensures phase { self.new.phase ≡ self.old.phase }
+        ensures code { code_nodes self.new.world ≡ code_nodes self.old.world }
+    {
+        match self.resolve_assumptions(code, call, key, place, hyps) {
+            Ok(true) => return Ok(true),
+            Ok(false) => {}
+            Err(stop) => return Err(stop),
+        }
+        match self.resolve(code, call, key, 0) {
+            Ok(fits) => Ok(fits),
+            Err(stop) => Err(stop),
+        }
+    }
+
+    /// Tries assumptions of the call's constant, of which the first has this place, and then the
     /// program's clauses, and answers whether one fits. Where all clash, all is as before.
     pub(crate) fn resolve_from<C: Clauses>(
         &mut self,
@@ -233,15 +268,7 @@ impl Machine {
         ensures code { code_nodes self.new.world ≡ code_nodes self.old.world }
     {
         let key = self.key_of(call)?;
-        match self.resolve_assumptions(code, call, key, place, hyps) {
-            Ok(true) => return Ok(true),
-            Ok(false) => {}
-            Err(stop) => return Err(stop),
-        }
-        match self.resolve(code, call, key, 0) {
-            Ok(fits) => Ok(fits),
-            Err(stop) => Err(stop),
-        }
+        self.resolve_by(code, call, key, place, hyps)
     }
 
     /// Tries what is left of a call, and answers whether anything fits. Where all clashes, all is as
@@ -266,10 +293,7 @@ impl Machine {
     {
         match later {
             Later::Assumptions(place, tail) => self.resolve_from(code, call, *place, tail.iter()),
-            Later::Clauses(from) => {
-                let key = self.key_of(call)?;
-                self.resolve(code, call, key, *from)
-            }
+            Later::Clauses(from) => self.resolve_clauses(code, call, *from),
         }
     }
 }

@@ -204,6 +204,29 @@ impl Machine {
         Ok(false)
     }
 
+    /// Tries the clauses of the call's constant from a number on, and answers whether one fits. Where
+    /// all clash, all is as before.
+    pub(crate) fn resolve_clauses<C: Clauses>(
+        &mut self,
+        code: &C,
+        call: &Call<'_>,
+        from: usize,
+    ) -> Result<bool, UnifyStop>
+        requires code { (p : Program) × (C.stands (code_nodes self.old.world) code.now p) }
+        requires call { IsCall self.old call.now }
+        ensures answer { IfOk result (λ b. (p : Program) → C.stands (code_nodes self.old.world) code.now p → HasInputs call.now (modes_of p call.now.pred.0) → MatchBool b
+            (HasResolved p self.old self.new call.now.goal.now call.now.pred.0 from (modes_of p call.now.pred.0))
+            (resolved_from self.old call.now.goal.now p.clauses call.now.pred.0 from (modes_of p call.now.pred.0) ≡ None)) }
+        ensures same { IfOk result (λ b. b ≡ false → self.new ≡ self.old) }
+        ensures stops { IfErr result (λ stop. (p : Program) → C.stands (code_nodes self.old.world) code.now p → HasInputs call.now (modes_of p call.now.pred.0)
+            → ResolvedStops (resolved_from self.old call.now.goal.now p.clauses call.now.pred.0 from (modes_of p call.now.pred.0)) stop) }
+        ensures phase { self.new.phase ≡ self.old.phase }
+        ensures code { code_nodes self.new.world ≡ code_nodes self.old.world }
+    {
+        let key = self.key_of(call)?;
+        self.resolve(code, call, key, from)
+    }
+
     /// A goal that is an atom of this constant with these arguments.
     pub(crate) fn call<C: Clauses>(
         &mut self,
