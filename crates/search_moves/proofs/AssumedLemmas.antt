@@ -79,6 +79,15 @@ pub after-none : (p : Program) (b : Branch) (c : Sym) (g : Graph) (hs others : L
 after-none p b c g hs others i later e d none is =
     subst (λ cs. IsLeftAfter p b c cs later) (sym (later-none p g b.goals c.0 i hs others e (sym d ∙ none))) is
 
+-- two lists of which nothing passes a test
+none-appended : (test : Candidate → Bool) (xs ys : List Candidate) → list_any test xs ≡ false → list_any test ys ≡ false → list_any test (xs ++ ys) ≡ false
+none-appended test [] ys e f = f
+none-appended test (x ∷ xs) ys e f = by (test x) e (λ k. none-appended test xs ys k f)
+  where
+    by : (b : Bool) → (b || list_any test xs) ≡ false → (list_any test xs ≡ false → list_any test (xs ++ ys) ≡ false) → (b || list_any test (xs ++ ys)) ≡ false
+    by true e f = absurd (let z : true ≡ false = e in cc)
+    by false e f = f e
+
 -- where all assumptions that are left clash, and all clauses do, nothing is left
 pub after-clashes : (p : Program) (b : Branch) (c : Sym) (g : Graph) (hs others : List Hyp) (i : ℕ) → first_assumptions b.goals ≡ map (assumption_in g) hs → others ≡ drop i (hyps_for c.0 hs)
     → list_any (is_open unify p b) (from_place of_assumption i (map (assumption_in g) others)) ≡ false → list_any (is_open unify p b) (program_candidates c.0 0 p.clauses) ≡ false
@@ -88,14 +97,6 @@ after-clashes p b c g hs others i e d closed none =
     let left : drop i (assumptions_for c.0 (first_assumptions b.goals)) ≡ map (assumption_in g) others = read-left g c.0 i hs (first_assumptions b.goals) e ∙ ap (map (assumption_in g)) (sym d) in
     ap (λ xs. list_any test (from_place of_assumption i xs ++ program_candidates c.0 0 p.clauses)) left
     ∙ none-appended test (from_place of_assumption i (map (assumption_in g) others)) (program_candidates c.0 0 p.clauses) closed none
-  where
-    none-appended : (test : Candidate → Bool) (xs ys : List Candidate) → list_any test xs ≡ false → list_any test ys ≡ false → list_any test (xs ++ ys) ≡ false
-    none-appended test [] ys e f = f
-    none-appended test (x ∷ xs) ys e f = by (test x) e (λ k. none-appended test xs ys k f)
-      where
-        by : (b : Bool) → (b || list_any test xs) ≡ false → (list_any test xs ≡ false → list_any test (xs ++ ys) ≡ false) → (b || list_any test (xs ++ ys)) ≡ false
-        by true e f = absurd (let z : true ≡ false = e in cc)
-        by false e f = f e
 
 -- what holds of a goal's assumptions holds of those that are left
 

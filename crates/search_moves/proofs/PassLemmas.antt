@@ -38,14 +38,14 @@ module _ (law : DisagreeingAssumptionClashes) (m : Machine) (call : Call) (h : H
   abbrev goal : Goal
   goal = goal_in m.world.heap call.goal.now
 
-  abbrev assumption : Assumption
-  assumption = assumption_in m.world.heap h
+  abbrev assumed : Assumption
+  assumed = assumption_in m.world.heap h
 
   firm : fits_every (fixed_key h.depth seen) ≡ false
   firm = (disagreeing key (fixed_key h.depth seen) differs).clause_firm
 
   -- the look told the key
-  own : key_among call.inputs.now (args_of assumption.head) ≡ seen
+  own : key_among call.inputs.now (args_of assumed.head) ≡ seen
   own = looked (ap fits_every (sym (fixed-same h.depth seen firm)) ∙ firm)
 
   -- the inputs are those of the modes
@@ -58,16 +58,16 @@ module _ (law : DisagreeingAssumptionClashes) (m : Machine) (call : Call) (h : H
   pub passed-over : HypClashes m call.goal.now modes h
   passed-over place barrier = by (nat_eq (length call.args.now) (length call.inputs.now)) refl
     where
-      by : (b : Bool) → nat_eq (length call.args.now) (length call.inputs.now) ≡ b → try unify modes (branch_of m) goal (rest_of m call.goal.now) barrier (of_assumption place assumption) ≡ Clashes
+      by : (b : Bool) → nat_eq (length call.args.now) (length call.inputs.now) ≡ b → try unify modes (branch_of m) goal (rest_of m call.goal.now) barrier (of_assumption place assumed) ≡ Clashes
       by false e =
           let any : key ≡ Any = known ∙ ap (λ b. cond b (key_among call.inputs.now (all_read m.world.heap call.args.now)) Any) e in
           absurd (let z : true ≡ false = sym (ap (λ k. agree k (fixed_key h.depth seen)) any) ∙ differs in cc)
       by true e =
           let mine : key_among (inputs_for modes goal.term) (args_of goal.term) ≡ key =
           ap₂ key_among same is.arguments ∙ sym (known ∙ ap (λ b. cond b (key_among call.inputs.now (all_read m.world.heap call.args.now)) Any) e) in
-          let theirs : assumption_key (inputs_for modes goal.term) assumption ≡ fixed_key h.depth seen =
-          ap (λ ms. fixed_key h.depth (key_among ms (args_of assumption.head))) same ∙ ap (fixed_key h.depth) own in
-          law modes h.pred.0 place barrier assumption (branch_of m) goal (rest_of m call.goal.now) usable.head
+          let theirs : assumption_key (inputs_for modes goal.term) assumed ≡ fixed_key h.depth seen =
+          ap (λ ms. fixed_key h.depth (key_among ms (args_of assumed.head))) same ∙ ap (fixed_key h.depth) own in
+          law modes h.pred.0 place barrier assumed (branch_of m) goal (rest_of m call.goal.now) usable.head
           (count ∙ eqb-true (length call.args.now) (length call.inputs.now) e ∙ ap length (sym same))
           (ap₂ agree mine theirs ∙ differs)
 

@@ -75,17 +75,16 @@ get-dropped (k ∷ ks) (suc i) j = get-dropped ks i j ∙ ap (slice_get (k ∷ k
 -- candidates of which none passes a test
 closed-candidates : (test : Candidate → Bool) (c i : ℕ) (ks : List Clause) → ((j : ℕ) (k : Clause) → slice_get ks j ≡ Some k → headed_by c k.head ≡ true → test (of_program (i + j) k) ≡ false) → list_any test (program_candidates c i ks) ≡ false
 closed-candidates test c i [] f = refl
-closed-candidates test c i (k ∷ ks) f = by (headed_by c k.head) (λ h. ap (λ n. test (of_program n k)) (let e : i ≡ i + 0 = omega arith in e) ∙ f 0 k refl h)
+closed-candidates test c i (k ∷ ks) f =
+    by (headed_by c k.head) (λ h. ap (λ n. test (of_program n k)) (let e : i ≡ i + 0 = omega arith in e) ∙ f 0 k refl h)
+    (closed-candidates test c (suc i) ks (λ j l here h. ap (λ n. test (of_program n l)) (let e : suc i + j ≡ i + suc j = omega arith in e) ∙ f (suc j) l here h))
   where
     later : List Candidate
     later = program_candidates c (suc i) ks
 
-    rest : list_any test later ≡ false
-    rest = closed-candidates test c (suc i) ks (λ j l here h. ap (λ n. test (of_program n l)) (let e : suc i + j ≡ i + suc j = omega arith in e) ∙ f (suc j) l here h)
-
-    by : (b : Bool) → (b ≡ true → test (of_program i k) ≡ false) → list_any test (cond b (of_program i k ∷ later) later) ≡ false
-    by true g = ap (λ b. b || list_any test later) (g refl) ∙ rest
-    by false g = rest
+    by : (b : Bool) → (b ≡ true → test (of_program i k) ≡ false) → list_any test later ≡ false → list_any test (cond b (of_program i k ∷ later) later) ≡ false
+    by true g rest = ap (λ b. b || list_any test later) (g refl) ∙ rest
+    by false g rest = rest
 
 -- where a clause is the constant's, there is a candidate
 pub some-candidate : (c i : ℕ) (ks : List Clause) (j : ℕ) (k : Clause) → slice_get ks j ≡ Some k → headed_by c k.head ≡ true → (x : Candidate) × (xs : List Candidate) × (program_candidates c i ks ≡ x ∷ xs)

@@ -94,6 +94,28 @@ impl Machine {
         true
     }
 
+    /// Whether the key of a call passes over each of these assumptions of its constant, and then over the
+    /// program's clauses, of which this is the first one that agrees, if there is one.
+    fn passes_over_rest(
+        &self,
+        call: &Call<'_>,
+        key: Key,
+        hyps: HypIter<'_>,
+        clause: Option<usize>,
+    ) -> bool
+        requires call { IsCall self.now call.now }
+        requires key { key ≡ key_of_call self.now.world.heap call.now }
+        requires valid { AllHypsValid self.now.world.heap hyps }
+        requires usable { AllUsable self.now.world.heap call.now.goal.now.depth hyps }
+        ensures clauses { IsTrue result → clause ≡ None }
+        ensures hyps { IsTrue result → (modes : Option (List Bool)) → HasInputs call.now modes → AllHypsClash self.now call.now.goal.now modes hyps }
+    {
+        match clause {
+            Some(_) => false,
+            None => self.passes_over_all(call, key, hyps),
+        }
+    }
+
     /// What is left of a call after an assumption with this place, before these others: nothing where
     /// its key passes over all of them and over the program's clauses.
     fn left_after<C: Clauses>(
@@ -116,7 +138,7 @@ impl Machine {
         let found = others.tail()?;
         match found {
             Some(tail) => {
-                if clause.is_none() && self.passes_over_all(call, key, tail.iter()) {
+                if self.passes_over_rest(call, key, tail.iter(), clause) {
                     return Ok(None);
                 }
                 let next = one_more(place)?;
