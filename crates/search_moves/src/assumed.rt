@@ -83,7 +83,7 @@ impl Machine {
         requires key { key ≡ key_of_call self.now.world.heap call.now }
         requires valid { AllHypsValid self.now.world.heap hyps }
         requires usable { AllUsable self.now.world.heap call.now.goal.now.depth hyps }
-        ensures { IsTrue result → (modes : Option (List Bool)) → HasInputs call.now modes → AllHypsClash self.now call.now.goal.now modes hyps }
+        ensures { IsTrue result → (modes : Option (List Bool)) → HasInputs call.now modes → AllHypsClash self.now call.now.goal.now modes hyps.entry }
     {
         let mut left = hyps;
         while let Some(hyp) = left.next() {
@@ -108,7 +108,7 @@ impl Machine {
         requires valid { AllHypsValid self.now.world.heap hyps }
         requires usable { AllUsable self.now.world.heap call.now.goal.now.depth hyps }
         ensures clauses { IsTrue result → clause ≡ None }
-        ensures hyps { IsTrue result → (modes : Option (List Bool)) → HasInputs call.now modes → AllHypsClash self.now call.now.goal.now modes hyps }
+        ensures hyps { IsTrue result → (modes : Option (List Bool)) → HasInputs call.now modes → AllHypsClash self.now call.now.goal.now modes hyps.entry }
     {
         match clause {
             Some(_) => false,

@@ -4,8 +4,8 @@ use Rattle.clause_key.specs.Keys.{agree}
 use Rattle.search_moves.proofs.PassLemmas.{passed-over, not-held}
 use Rattle.search_moves.proofs.machine.Machine.passes_over.Goals as goal
 
-pub seen_among-requires : goal.seen_among-requires
-seen_among-requires c = valid-below c.args.self.now.world.heap c.args.hyp.now.head.index (c.args.hyp.now.depth + c.args.hyp.now.pis) c.requires.valid.head
+pub seen_among-seen-requires : goal.seen_among-seen-requires
+seen_among-seen-requires c = valid-below c.args.self.now.world.heap c.args.hyp.now.head.index (c.args.hyp.now.depth + c.args.hyp.now.pis) c.requires.valid.head
 
 pub returns : goal.returns
 returns c = λ yes modes inputs.
