@@ -57,8 +57,8 @@ returns-in-Err-clause-phase g c = c.try_clause.ensures.phase ∙ ap (λ m. m.pha
 pub returns-in-Err-clause-code : goal.returns-in-Err-clause-code
 returns-in-Err-clause-code g c = c.try_clause.ensures.code ∙ ap (λ m. code_nodes m.world) c.loop-next.invariant.0
 
-pub overflow_add-clause : goal.overflow_add-clause
-overflow_add-clause g c =
+pub overflow_add-place : goal.overflow_add-place
+overflow_add-place g c =
     let p = c.requires.code.0 in
     let stands = c.requires.code.1 in
     let t = subst (IsTryingNext p c.args.self.now c.args.call.now c.args.from) c.in-Some.is (c.loop-next.invariant.1 p stands) in
