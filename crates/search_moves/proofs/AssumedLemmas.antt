@@ -21,7 +21,7 @@ use Rattle.hyp_clause.specs.Hyps.{assumption_in, IsHypValid, AllHypsValid}
 use Rattle.hyp_clause.proofs.HypLemmas.{hyps-read, hyps-valid}
 use Rattle.hyp_context.specs.Contexts.{hyps_for}
 use Rattle.hyp_context.specs.declared.context.HypTail.{HypTail}
-use Rattle.hyp_context.proofs.ContextLemmas.{for-read, for_pred-reads}
+use Rattle.hyp_context.proofs.ContextLemmas.{for-read, for-valid}
 use Rattle.search_moves.specs.declared.frame.Later.TheVariants.{Assumptions, Clauses}
 use Rattle.search_moves.specs.World.{IsUsable, AllUsable, IsContextAt}
 use Rattle.search_moves.specs.Reading.{first_assumptions, later_of}
@@ -98,8 +98,8 @@ usable-for g d c (h ∷ hs) v = go (nat_eq c h.pred.0) (usable-for g d c hs v.1)
 
 pub hyp-there : (g : Graph) (d c i : ℕ) (hs : List Hyp) (h : Hyp) (others : List Hyp) → IsContextAt g d hs → drop i (hyps_for c hs) ≡ h ∷ others → IsHypValid g h × IsUsable g d h
 hyp-there g d c i hs h others v e =
-    let valid = (for_pred-reads g c hs (map (assumption_in g) hs) (record { reads = refl; valid = v.valid })).valid in (
-      (subst (AllHypsValid g) e (valid-dropped g i (hyps_for c hs) valid)).0,
+    (
+      (subst (AllHypsValid g) e (valid-dropped g i (hyps_for c hs) (for-valid g c hs v.valid))).0,
       (subst (AllUsable g d) e (usable-dropped g d i (hyps_for c hs) (usable-for g d c hs v.usable))).0,
     )
 
