@@ -1,4 +1,5 @@
 //! Lines of a table: a text, an arrow, and what is wanted of the text.
+use lam_io::ByteText;
 use std::test::Fail;
 
 /// The text and what is wanted of it.
@@ -13,5 +14,14 @@ pub(crate) fn expect_same(text: &str, shown: &str, wanted: &str) -> Result<(), F
         Ok(())
     } else {
         Err(Fail::new(format_args!("{text}: {shown}")))
+    }
+}
+
+/// The same of a printed text.
+pub(crate) fn expect_text(text: &str, shown: &ByteText, wanted: &str) -> Result<(), Fail> {
+    if shown.equals(wanted.as_bytes()) {
+        Ok(())
+    } else {
+        Err(Fail::new(format_args!("not so: {text}")))
     }
 }
