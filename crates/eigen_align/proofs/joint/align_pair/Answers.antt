@@ -30,7 +30,7 @@ identify_spines-could-requires-clause-left c =
     let few = c.requires.few in
     let left = c.requires.left in
     subst (λ (n : ℕ). IfSome c.in_ok-left.left (λ s. AllBelow s.names.items n))
-    (sym (ap length (c.as_slice.ensures ∙ map-got c.args.maps.now c.args.pair.left_head c.index-map.result.now c.requires.left c.index-map.ensures) ∙ c.requires.counts c.args.pair.left_head c.requires.left
+    (sym (ap length (c.as_slice.ensures ∙ map-got c.args.maps.now c.args.pair.left_head c.index-maps-pair.result c.requires.left c.index-maps-pair.is) ∙ c.requires.counts c.args.pair.left_head c.requires.left
     ∙ depth-at c.args.heads.now c.args.pair.left_head none (omega (arith, few, left)))) c.in_ok-left.ensures.below
 
 pub identify_spines-could-requires-clause-right : goal.identify_spines-could-requires-clause-right
@@ -45,14 +45,14 @@ returns-clause-aligned c =
     let valid = (every-at (IsSequent c.args.heap.now) c.args.heads.now c.args.pair.right_head none c.requires.right c.requires.sequents).0 in
     c.identify_spines-could.ensures.identified
     ∙ ap (λ (m : List ℕ). option_and_then (λ ps. identified m ps (Some c.args.names.now.items)) (paired_spines (option_map spine_read c.in_ok-left.left) (option_map spine_read c.in_ok-right.right)))
-    (c.as_slice.ensures ∙ map-got c.args.maps.now c.args.pair.left_head c.index-map.result.now c.requires.left c.index-map.ensures)
+    (c.as_slice.ensures ∙ map-got c.args.maps.now c.args.pair.left_head c.index-maps-pair.result c.requires.left c.index-maps-pair.is)
     ∙ sym (aligned-by c.args.heap.now c.args.heads.now c.args.maps.now c.args.pair none none (option_map spine_read c.in_ok-left.left) (option_map spine_read c.in_ok-right.right) (Some c.args.names.now.items) (omega (arith, few, left)) right
         c.in_ok-left.ensures.spine
         (c.in_ok-right.ensures.spine ∙ ap (λ (s : Constraint). spine_at c.args.pair.right_arg (Some s)) (sequent-stays c.args.heap.now c.spine_at.new.heap c.is_sound.ensures c.spine_at.ensures.grows (get_or c.args.heads.now c.args.pair.right_head none) valid)))
 
 pub returns-clause-below : goal.returns-clause-below
 returns-clause-below c = λ d b w. c.identify_spines-could.ensures.below d
-    (subst (λ (ns : List ℕ). AllBelow ns d) (sym (c.as_slice.ensures ∙ map-got c.args.maps.now c.args.pair.left_head c.index-map.result.now c.requires.left c.index-map.ensures)) (b c.args.pair.left_head c.requires.left)) w
+    (subst (λ (ns : List ℕ). AllBelow ns d) (sym (c.as_slice.ensures ∙ map-got c.args.maps.now c.args.pair.left_head c.index-maps-pair.result c.requires.left c.index-maps-pair.is)) (b c.args.pair.left_head c.requires.left)) w
 
 pub returns-clause-grows : goal.returns-clause-grows
 returns-clause-grows c = grows-trans c.args.heap.now c.spine_at.new.heap c.spine_at-2.new.heap [] [] [] c.spine_at.ensures.grows c.spine_at-2.ensures.grows

@@ -39,8 +39,8 @@ own_names-requires-clause-counts c = subst (HaveCounts c.args.heads.now) (sym c.
 pub returns-in_err-names-clause-grows : goal.returns-in_err-names-clause-grows
 returns-in_err-names-clause-grows c = grows-trans c.args.heap.now c.loop-i.heap c.own_names.new.heap [] [] [] c.loop-i.invariant.grows c.own_names.ensures.grows
 
-pub returns-in_err-add-clause-grows : goal.returns-in_err-add-clause-grows
-returns-in_err-add-clause-grows c = grows-trans c.args.heap.now c.loop-i.heap c.own_names.new.heap [] [] [] c.loop-i.invariant.grows c.own_names.ensures.grows
+pub returns-in_err-add-in-Some-clause-grows : goal.returns-in_err-add-in-Some-clause-grows
+returns-in_err-add-in-Some-clause-grows c = grows-trans c.args.heap.now c.loop-i.heap c.own_names.new.heap [] [] [] c.loop-i.invariant.grows c.own_names.ensures.grows
 
 pub returns-in-None-clause-joint : goal.returns-in-None-clause-joint
 returns-in-None-clause-joint c =
@@ -64,7 +64,7 @@ loop-i-preserved c =
     let got : Some c.in-Some.names.items ≡ all_aligned (sequents_read c.args.heap.now c.args.heads.now) c.loop-i.joint.maps.items fs start =
     ap (option_map (λ ns. ns.items)) (sym c.in-Some.is) ∙ c.in_ok-names.ensures.names
     ∙ ap₂ (λ (xs : List Constraint) (ns : List (List ℕ)). all_aligned xs ns fs start) same c.as_slice.ensures.value in
-    let after : joint_read c.add.new.self ≡ with_head (joint_read c.loop-i.joint) c.in-Some.names.items = c.in_ok-add.ensures ∙ ap (with_head (joint_read c.loop-i.joint)) c.as_slice-2.ensures.value in
+    let after : joint_read c.add.new.self ≡ with_head (joint_read c.loop-i.joint) c.in-Some.names.items = c.in_ok-add-in-Some.ensures ∙ ap (with_head (joint_read c.loop-i.joint)) c.as_slice-in-Some.ensures.value in
     let count : length c.in-Some.names.items ≡ slice_index (depths_of c.args.heads.now) c.loop-i.i =
     subst (λ (o : Option _). IfSome o (λ ns. length ns.items ≡ slice_index (depths_of c.args.heads.now) c.loop-i.i)) c.in-Some.is c.in_ok-names.ensures.count in
     let low : AreBelow c.loop-i.joint.depth c.in-Some.names.items =
@@ -96,3 +96,9 @@ pub returns-clause-fits : goal.returns-clause-fits
 returns-clause-fits c =
     let all = c.loop-i.invariant.all in
     record { all = omega (arith, all, c.requires.some); counts = c.loop-i.invariant.counts; below = c.loop-i.invariant.below }
+
+pub returns-in_err-joint-clause-grows : goal.returns-in_err-joint-clause-grows
+returns-in_err-joint-clause-grows c = grows-refl c.args.heap.now []
+
+pub returns-in-None-clause-grows : goal.returns-in-None-clause-grows
+returns-in-None-clause-grows c = grows-trans c.args.heap.now c.loop-i.heap c.own_names.new.heap [] [] [] c.loop-i.invariant.grows c.own_names.ensures.grows

@@ -77,3 +77,6 @@ returns-clause-names c =
     sym (ap (λ (ps : List Pair). all_aligned_at cs c.args.maps.now c.args.i ps (Some c.loop-k.names.items)) (drop-end c.args.pairs.now c.loop-k.k (omega arith)))
     ∙ c.loop-k.invariant.aligned
     ∙ sym (filtered cs c.args.maps.now c.args.i c.args.pairs.now (Some (replicate (slice_index (depths_of c.args.heads.now) c.args.i) None)))
+
+pub returns-in_err-names-clause-grows : goal.returns-in_err-names-clause-grows
+returns-in_err-names-clause-grows c = grows-refl c.args.heap.now []
