@@ -15,13 +15,14 @@ gets-passed own joint i (None ∷ ms) h =
     mapped false = refl
 gets-passed own joint i (Some z ∷ ms) h =
     ap₂ (λ (b : Bool) (o : Option (List (Option ℕ))).
-        cond b (cond (nat_eq joint z) (option_map (λ (r : List (Option ℕ)). Some z ∷ r) o) None) (cond (nat_eq joint z) None (option_map (λ (r : List (Option ℕ)). Some z ∷ r) o)))
-        other (gets-passed own joint (suc i) ms (omega (arith, h)))
+    cond b (cond (nat_eq joint z) (option_map (λ (r : List (Option ℕ)). Some z ∷ r) o) None) (cond (nat_eq joint z) None (option_map (λ (r : List (Option ℕ)). Some z ∷ r) o)))
+    other (gets-passed own joint (suc i) ms (omega (arith, h)))
     ∙ go (nat_eq joint z) (all_allowed own joint (suc i) ms)
     ∙ sym (ap (λ (b : Bool). cond (cond b (nat_eq joint z) (not (nat_eq joint z)) && all_allowed own joint (suc i) ms) (Some (Some z ∷ ms)) None) other)
   where
     other : nat_eq own i ≡ false
     other = ne_eqb own i (omega (arith, h))
+
     go : (b c : Bool) → cond b None (option_map (λ (r : List (Option ℕ)). Some z ∷ r) (cond c (Some ms) None)) ≡ cond (not b && c) (Some (Some z ∷ ms)) None
     go true c = refl
     go false true = refl
@@ -39,13 +40,14 @@ gets-given zero joint i own (None ∷ ms) e h =
     mapped false = refl
 gets-given zero joint i own (Some z ∷ ms) e h =
     ap₂ (λ (b : Bool) (o : Option (List (Option ℕ))).
-        cond b (cond (nat_eq joint z) (option_map (λ (r : List (Option ℕ)). Some z ∷ r) o) None) (cond (nat_eq joint z) None (option_map (λ (r : List (Option ℕ)). Some z ∷ r) o)))
-        same (gets-passed own joint (suc i) ms (omega (arith, e)))
+    cond b (cond (nat_eq joint z) (option_map (λ (r : List (Option ℕ)). Some z ∷ r) o) None) (cond (nat_eq joint z) None (option_map (λ (r : List (Option ℕ)). Some z ∷ r) o)))
+    same (gets-passed own joint (suc i) ms (omega (arith, e)))
     ∙ go (nat_eq joint z) refl (all_allowed own joint (suc i) ms)
     ∙ sym (ap (λ (b : Bool). cond (cond b (nat_eq joint z) (not (nat_eq joint z)) && all_allowed own joint (suc i) ms) (Some (Some joint ∷ ms)) None) same)
   where
     same : nat_eq own i ≡ true
     same = eq-eqb own i (omega (arith, e))
+
     go : (b : Bool) → nat_eq joint z ≡ b → (c : Bool) → cond b (option_map (λ (r : List (Option ℕ)). Some z ∷ r) (cond c (Some ms) None)) None ≡ cond (b && c) (Some (Some joint ∷ ms)) None
     go true q true = ap (λ (x : ℕ). Some (Some x ∷ ms)) (sym (eqb-true joint z q))
     go true q false = refl
@@ -59,13 +61,14 @@ gets-given (suc k) joint i own (None ∷ ms) e h =
     mapped false = refl
 gets-given (suc k) joint i own (Some z ∷ ms) e h =
     ap₂ (λ (b : Bool) (o : Option (List (Option ℕ))).
-        cond b (cond (nat_eq joint z) (option_map (λ (r : List (Option ℕ)). Some z ∷ r) o) None) (cond (nat_eq joint z) None (option_map (λ (r : List (Option ℕ)). Some z ∷ r) o)))
-        other (gets-given k joint (suc i) own ms (omega (arith, e)) (omega (arith, h)))
+    cond b (cond (nat_eq joint z) (option_map (λ (r : List (Option ℕ)). Some z ∷ r) o) None) (cond (nat_eq joint z) None (option_map (λ (r : List (Option ℕ)). Some z ∷ r) o)))
+    other (gets-given k joint (suc i) own ms (omega (arith, e)) (omega (arith, h)))
     ∙ go (nat_eq joint z) (all_allowed own joint (suc i) ms)
     ∙ sym (ap (λ (b : Bool). cond (cond b (nat_eq joint z) (not (nat_eq joint z)) && all_allowed own joint (suc i) ms) (Some (Some z ∷ set ms k (Some joint))) None) other)
   where
     other : nat_eq own i ≡ false
     other = ne_eqb own i (omega (arith, e))
+
     go : (b c : Bool) → cond b None (option_map (λ (r : List (Option ℕ)). Some z ∷ r) (cond c (Some (set ms k (Some joint))) None)) ≡ cond (not b && c) (Some (Some z ∷ set ms k (Some joint))) None
     go true c = refl
     go false true = refl

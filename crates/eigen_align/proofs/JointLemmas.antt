@@ -239,7 +239,7 @@ pub joined-next : (g : Graph) (ss : List Sequent) (pairs : List Pair) (i : ℕ) 
 joined-next g ss pairs i d j o h e =
     ap (λ (cs : List Constraint). joined (sequents_read g ss) pairs i cs (joint_read j)) (sequents-front g ss i d h)
     ∙ ap (λ (n : ℕ). option_and_then (λ ms. joined (sequents_read g ss) pairs (suc i) (drop (suc i) (sequents_read g ss)) (with_head (joint_read j) ms))
-        (all_aligned (sequents_read g ss) j.maps.items (filter (λ p. nat_eq p.right_head i) pairs) (Some (replicate n None)))) (sym (depth-at ss i d h))
+    (all_aligned (sequents_read g ss) j.maps.items (filter (λ p. nat_eq p.right_head i) pairs) (Some (replicate n None)))) (sym (depth-at ss i d h))
     ∙ ap (option_and_then (λ ms. joined (sequents_read g ss) pairs (suc i) (drop (suc i) (sequents_read g ss)) (with_head (joint_read j) ms))) (sym e)
 
 -- one name more of the first sequent

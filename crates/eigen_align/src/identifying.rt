@@ -56,12 +56,7 @@ fn give(names: &mut Vec<Option<usize>>, own: usize, joint: usize) -> bool
 
 /// Identifies names at equal places of two spines, and says whether it could. The left spine's names
 /// have the joint names `map`.
-fn identify(
-    names: &mut Vec<Option<usize>>,
-    map: &[usize],
-    left: &[usize],
-    right: &[usize],
-) -> bool
+fn identify(names: &mut Vec<Option<usize>>, map: &[usize], left: &[usize], right: &[usize]) -> bool
     requires left { AllBelow left.now (length map.now) }
     requires right { AllBelow right.now (length names.old.items) }
     ensures identified { cond result (Some names.new.items) None ≡ option_and_then (λ ps. identified map.now ps (Some names.old.items)) (paired left.now right.now) }
@@ -83,12 +78,7 @@ fn identify(
 
 /// Identifies the names at equal places of two spines, where both are of one variable, and says whether
 /// it could. The left spine's names have the joint names `map`.
-fn identify_one(
-    names: &mut Vec<Option<usize>>,
-    map: &[usize],
-    left: &Spine,
-    right: &Spine,
-) -> bool
+fn identify_one(names: &mut Vec<Option<usize>>, map: &[usize], left: &Spine, right: &Spine) -> bool
     requires left { AllBelow left.now.names.items (length map.now) }
     requires right { AllBelow right.now.names.items (length names.old.items) }
     ensures identified { cond result (Some names.new.items) None ≡ option_and_then (λ ps. identified map.now ps (Some names.old.items)) (paired_spines (Some (spine_read left.now)) (Some (spine_read right.now))) }

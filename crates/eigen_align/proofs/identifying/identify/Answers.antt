@@ -31,8 +31,8 @@ pub returns-then-not-given-clause-identified : goal.returns-then-not-given-claus
 returns-then-not-given-clause-identified c =
     let even : length c.args.left.now ≡ length c.args.right.now = c.if-not-same.false in
     sym (identified-step c.args.map.now c.args.left.now c.args.right.now c.loop-i.i c.loop-i.names.items None (omega arith) (omega (arith, even))
-        (sym (ap (λ (b : Bool). cond b (Some c.give-given.new.names.items) None) c.if-not-given.true) ∙ c.give-given.ensures.given)
-        ∙ identified-fails c.args.map.now (paired (drop (suc c.loop-i.i) c.args.left.now) (drop (suc c.loop-i.i) c.args.right.now))) ∙ c.loop-i.invariant.identified
+    (sym (ap (λ (b : Bool). cond b (Some c.give-given.new.names.items) None) c.if-not-given.true) ∙ c.give-given.ensures.given)
+    ∙ identified-fails c.args.map.now (paired (drop (suc c.loop-i.i) c.args.left.now) (drop (suc c.loop-i.i) c.args.right.now))) ∙ c.loop-i.invariant.identified
 
 pub returns-then-not-given-clause-below : goal.returns-then-not-given-clause-below
 returns-then-not-given-clause-below c = λ d b w. c.give-given.ensures.below d (b (get_or c.args.left.now c.loop-i.i 0) (c.requires.left c.loop-i.i (omega arith))) (c.loop-i.invariant.below d b w)

@@ -47,8 +47,8 @@ returns-clause-aligned c =
     ∙ ap (λ (m : List ℕ). option_and_then (λ ps. identified m ps (Some c.args.names.now.items)) (paired_spines (option_map spine_read c.in_ok-left.left) (option_map spine_read c.in_ok-right.right)))
     (c.as_slice.ensures ∙ map-got c.args.maps.now c.args.pair.left_head c.index-maps-pair.result c.requires.left c.index-maps-pair.is)
     ∙ sym (aligned-by c.args.heap.now c.args.heads.now c.args.maps.now c.args.pair none none (option_map spine_read c.in_ok-left.left) (option_map spine_read c.in_ok-right.right) (Some c.args.names.now.items) (omega (arith, few, left)) right
-        c.in_ok-left.ensures.spine
-        (c.in_ok-right.ensures.spine ∙ ap (λ (s : Constraint). spine_at c.args.pair.right_arg (Some s)) (sequent-stays c.args.heap.now c.spine_at.new.heap c.is_sound.ensures c.spine_at.ensures.grows (get_or c.args.heads.now c.args.pair.right_head none) valid)))
+    c.in_ok-left.ensures.spine
+    (c.in_ok-right.ensures.spine ∙ ap (λ (s : Constraint). spine_at c.args.pair.right_arg (Some s)) (sequent-stays c.args.heap.now c.spine_at.new.heap c.is_sound.ensures c.spine_at.ensures.grows (get_or c.args.heads.now c.args.pair.right_head none) valid)))
 
 pub returns-clause-below : goal.returns-clause-below
 returns-clause-below c = λ d b w. c.identify_spines-could.ensures.below d
