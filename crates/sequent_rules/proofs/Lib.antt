@@ -1,0 +1,15 @@
+pub mod AnswerLemmas
+pub mod EquationLemmas
+pub mod FitLemmas
+pub mod FrozenLemmas
+pub mod HeadLemmas
+pub mod ItemLemmas
+pub mod KeptLemmas
+pub mod ListingLemmas
+pub mod MatchedLemmas
+pub mod PlaceLemmas
+pub mod SearchLemmas
+pub mod SolvingLemmas
+pub mod StageLemmas
+pub mod TestLemmas
+pub mod TupleLemmas

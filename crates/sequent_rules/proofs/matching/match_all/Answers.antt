@@ -1,0 +1,29 @@
+use Rattle.std.proofs.Common.{◌≡◌, ◌≤◌, suc, ◌+◌, List, length, length-append, sym, ap, subst, arith, get_or}
+use Rattle.level_terms.specs.Valid.{IsValid}
+use Rattle.level_terms.proofs.GrowthLemmas.{grows-trans}
+use Rattle.level_terms.proofs.ReadLemmas.{valid-below}
+use Rattle.pattern_unify.proofs.KeptLemmas.{frozen-trans}
+use Rattle.sequent_rules.specs.declared.matching.Equation.{Equation}
+use Rattle.sequent_rules.specs.inside.Equations.{IsSolving}
+use Rattle.sequent_rules.proofs.SolvingLemmas.{drop-get, every-get, equations-valid-grown, solving-starts, solving-goes, solving-clashes, solving-stops, solving-ends, picked-true, picked-false}
+use Rattle.sequent_rules.proofs.matching.match_all.Goals as goal
+
+-- what an index past the end would give
+abbrev none : Equation
+none = record { left = record { index = 0 }; right = record { index = 0 } }
+
+pub loop-i-init : goal.loop-i-init
+loop-i-init c = record {
+  valid = c.requires.valid;
+  first = c.requires.first;
+  solving = solving-starts c.args.first_fresh.index c.args.depth c.args.equations.now c.args.heap.now c.args.trail.now.entries;
+}
+
+pub match_arg-requires-clause-pattern : goal.match_arg-requires-clause-pattern
+match_arg-requires-clause-pattern c = (every-get (λ e. IsValid c.loop-i.heap e.left.index c.args.depth × IsValid c.loop-i.heap e.right.index c.args.depth) c.args.equations.now c.loop-i.i none c.loop-i-test.true c.loop-i.invariant.valid).0
+
+pub match_arg-requires-clause-argument : goal.match_arg-requires-clause-argument
+match_arg-requires-clause-argument c = (every-get (λ e. IsValid c.loop-i.heap e.left.index c.args.depth × IsValid c.loop-i.heap e.right.index c.args.depth) c.args.equations.now c.loop-i.i none c.loop-i-test.true c.loop-i.invariant.valid).1
+
+pub match_arg-requires-clause-first : goal.match_arg-requires-clause-first
+match_arg-requires-clause-first c = c.loop-i.invariant.first
