@@ -22,11 +22,11 @@ use Rattle.ref_terms.specs.lemmas.OccursLemmas.{inst_absent}
 
 none-later : (xs gs : List Assigned) (v : ℕ) → value_in (xs ++ gs) v ≡ None → value_in gs v ≡ None
 none-later [] gs v e = e
-none-later (a ∷ xs) gs v e = go (nat_eq a.variable v) e
+none-later (a ∷ xs) gs v e = go (none-later xs gs v) (nat_eq a.variable v) e
   where
-    go : (b : Bool) → cond b (Some a.value) (value_in (xs ++ gs) v) ≡ None → value_in gs v ≡ None
-    go true q = absurd (let k : ◌≡◌ {A = Option ℕ} (Some a.value) None = q in cc)
-    go false q = none-later xs gs v q
+    go : (value_in (xs ++ gs) v ≡ None → value_in gs v ≡ None) → (b : Bool) → cond b (Some a.value) (value_in (xs ++ gs) v) ≡ None → value_in gs v ≡ None
+    go rest true q = absurd (let k : ◌≡◌ {A = Option ℕ} (Some a.value) None = q in cc)
+    go rest false q = rest q
 
 -- the variables that got values are no older ones
 fresh-values : (nodes : List Node) (m : ℕ) (xs gs : List Assigned) → NoCycle nodes (xs ++ gs) → ((w : ℕ) → w < m → value_in (xs ++ gs) w ≡ value_in gs w) → Every (λ a. m ≤ a.variable) xs

@@ -1,5 +1,5 @@
 -- The head and the arguments of a term, by its form.
-use Rattle.std.proofs.Common.{◌≡◌, ℕ, ◌++◌, List, [], ◌∷◌, Bool, true, false, cond, Option, Some, None, refl, sym, ap, ◌∙◌}
+use Rattle.std.proofs.Common.{◌≡◌, ℕ, ◌++◌, List, [], ◌∷◌, Bool, true, false, cond, Option, Some, None, refl, sym, ap, ◌∙◌, append_assoc, append-nil}
 use Rattle.level_terms.specs.declared.node.TermId.{TermId}
 use Rattle.level_terms.specs.Graph.{Graph}
 use Rattle.level_terms.specs.Reading.{read}
@@ -14,7 +14,6 @@ use Rattle.beta_fragment.specs.declared.answer.Whnf.TheVariants.{Lam, Rigid, Fle
 use Rattle.beta_fragment.specs.Names.{names}
 use Rattle.beta_fragment.specs.HeadForm.{IsHeadForm, IsAbstraction, all_read, rigid_head}
 use Rattle.beta_fragment.proofs.FirmLemmas.{apply_all-head}
-use Rattle.beta_fragment.proofs.SpineLemmas.{args-applied}
 
 -- what the form shows of the head
 abbrev pub head_in : Whnf → Option Head
@@ -44,6 +43,15 @@ form-head g depth u (Flex v ts) f = ap head_of f.3 ∙ apply_all-head (all_read 
 form-head g depth u (Redex t []) f = absurd f.1
 form-head g depth u (Redex t (a ∷ ts)) f = ap head_of f.3 ∙ redex-head (read g t.index names) (read g a.index names) (all_read g ts) f.0.reads f.1
 
+-- an application before more arguments
+app-args : (xs : List Term) (f a : Term) → args_of (apply_all (term.App f a) xs) ≡ (args_of f ++ a ∷ []) ++ xs
+app-args [] f a = sym (append-nil (args_of f ++ a ∷ []))
+app-args (x ∷ xs) f a = app-args xs (term.App f a) x ∙ append_assoc (args_of f ++ a ∷ []) (x ∷ []) xs
+
+head-args : (h : Head) (xs : List Term) → args_of (apply_all (At h) xs) ≡ xs
+head-args h [] = refl
+head-args h (x ∷ xs) = app-args xs (At h) x
+
 -- a rigid form shows the arguments
 pub form-args : (g : Graph) (depth : ℕ) (u : Term) (h : RigidHead) (ts : List TermId) → IsHeadForm g depth u (Rigid h ts) → args_of u ≡ all_read g ts
-form-args g depth u h ts f = ap args_of f.1 ∙ args-applied (all_read g ts) (At (rigid_head h)) tt
+form-args g depth u h ts f = ap args_of f.1 ∙ head-args (rigid_head h) (all_read g ts)

@@ -20,6 +20,7 @@ use Rattle.ref_terms.specs.search.Assumption.{Assumption}
 use Rattle.ref_terms.specs.search.Branch as search
 use Rattle.ref_terms.specs.search.Program.{Program, Rule, RuleHead}
 use Rattle.hyp_clause.specs.declared.hyp.Hyp.{Hyp}
+use Rattle.hyp_clause.proofs.HypLemmas.{hyps-valid as grown-hyps}
 use Rattle.hyp_clause.specs.Hyps.{assumption_in, IsHypValid, AllHypsValid}
 use Rattle.suspend.specs.declared.constraint.Constraint as suspended
 use Rattle.sequent_rules.specs.Branches.{constraint_in, AllSequents}
@@ -32,23 +33,26 @@ use Rattle.sequent_rules.proofs.FrozenLemmas.{frozen-reads}
 pub record Keeps (g h : Graph) : Type 0 where
   pub reads : (t depth : ℕ) → IsValid g t depth → read h t names ≡ read g t names
   pub valid : (t depth : ℕ) → IsValid g t depth → IsValid h t depth
+  pub hyps : (hs : List Hyp) → AllHypsValid g hs → AllHypsValid h hs
 
 pub keeps-refl : (g : Graph) → Keeps g g
-keeps-refl g = record { reads = λ t d v. refl; valid = λ t d v. v }
+keeps-refl g = record { reads = λ t d v. refl; valid = λ t d v. v; hyps = λ hs v. v }
 
 pub keeps-trans : (f g h : Graph) → Keeps f g → Keeps g h → Keeps f h
-keeps-trans f g h a b = record { reads = λ t d v. b.reads t d (a.valid t d v) ∙ a.reads t d v; valid = λ t d v. b.valid t d (a.valid t d v) }
+keeps-trans f g h a b = record { reads = λ t d v. b.reads t d (a.valid t d v) ∙ a.reads t d v; valid = λ t d v. b.valid t d (a.valid t d v); hyps = λ hs v. b.hyps hs (a.hyps hs v) }
 
 pub keeps-grown : (g h : Graph) → IsSound g → Grows g h [] [] → Keeps g h
 keeps-grown g h s w = record {
   reads = λ t d v. growth_keeps_readings g h t names s w (valid-below g t d v);
   valid = λ t d v. growth_keeps_valid g h [] [] t d s w (valid-below g t d v) v;
+  hyps = λ hs v. grown-hyps g h [] [] hs s w v;
 }
 
 pub keeps-frozen : (g h : Graph) (r s : List Change) → IsSound g → IsSound h → Grows g h r s → LeavesFrozen (length g.depths) g h → Keeps g h
 keeps-frozen g h r s k l w f = record {
   reads = frozen-reads g h r s k w l f;
   valid = λ t d v. growth_keeps_valid g h r s t d k w (valid-below g t d v) v;
+  hyps = λ hs v. grown-hyps g h r s hs k w v;
 }
 
 module _ (g h : Graph) (k : Keeps g h) where
@@ -72,15 +76,7 @@ module _ (g h : Graph) (k : Keeps g h) where
   hyps-kept (x ∷ hs) v = ap₂ (λ (y : Assumption) (ys : List Assumption). y ∷ ys) (hyp-kept x v.0) (hyps-kept hs v.1)
 
   pub hyps-valid : (hs : List Hyp) → AllHypsValid g hs → AllHypsValid h hs
-  hyps-valid [] v = tt
-  hyps-valid (x ∷ hs) v = (
-    record v.0 {
-      head = k.valid x.head.index (x.depth + x.pis) v.0.head;
-      body = all-valid (x.depth + x.pis) x.body v.0.body;
-      term = k.valid x.term.index x.depth v.0.term;
-    },
-    hyps-valid hs v.1,
-  )
+  hyps-valid hs v = k.hyps hs v
 
   pub constraints-kept : (es : List (ℕ × suspended.Constraint (List Hyp))) → AllSequents g es → map (constraint_in h) es ≡ map (constraint_in g) es
   constraints-kept [] v = refl
@@ -94,7 +90,8 @@ module _ (g h : Graph) (k : Keeps g h) where
   pub sequents-valid : (es : List (ℕ × suspended.Constraint (List Hyp))) → AllSequents g es → AllSequents h es
   sequents-valid [] v = tt
   sequents-valid (e ∷ es) v = (
-    record v.0 {
+    record {
+      within = v.0.within;
       goal = k.valid e.1.goal.index e.1.names v.0.goal;
       keys = all-valid e.1.names e.1.keys v.0.keys;
       context = hyps-valid e.1.context v.0.context;

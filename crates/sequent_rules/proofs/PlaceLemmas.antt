@@ -1,5 +1,5 @@
 -- The constraint at a place of a tuple.
-use Rattle.std.proofs.Common.{◌≡◌, ℕ, zero, suc, ◌<◌, ◌≤◌, ◌&&◌, Bool, List, [], ◌∷◌, ◌++◌, map, length, take, drop, get_or, true, false, cond, nat_eq, Option, Some, None, refl, sym, subst, ap, ap₂, ◌∙◌, arith, length-map}
+use Rattle.std.proofs.Common.{◌≡◌, ℕ, zero, suc, ◌<◌, ◌≤◌, ◌&&◌, Bool, List, [], ◌∷◌, ◌++◌, map, length, take, drop, get_or, true, false, cond, nat_eq, Option, Some, None, refl, sym, subst, ap, ap₂, ◌∙◌, arith}
 use Rattle.level_terms.specs.Graph.{Graph}
 use Rattle.ref_terms.specs.search.Branch.{Constraint}
 use Rattle.ref_terms.specs.search.Program.{RuleHead}
@@ -47,11 +47,11 @@ module _ (g : Graph) (log : List (Event (List Hyp))) (ns : List ℕ) (i : ℕ) (
 -- a stored constraint is a sequent
 pub sequent-at : (g : Graph) (es : List (ℕ × suspended.Constraint (List Hyp))) (n : ℕ) (c : suspended.Constraint (List Hyp)) → stored_at es n ≡ Some c → AllSequents g es → IsSequentAt g c
 sequent-at g [] n c e a = absurd (let z : ◌≡◌ {A = Option (suspended.Constraint (List Hyp))} None (Some c) = e in cc)
-sequent-at g (x ∷ es) n c e a = go (nat_eq x.0 n) e
+sequent-at g (x ∷ es) n c e a = go (λ q. sequent-at g es n c q a.1) (nat_eq x.0 n) e
   where
-    go : (b : Bool) → cond b (Some x.1) (stored_at es n) ≡ Some c → IsSequentAt g c
-    go true q = let same : x.1 ≡ c = (let z : Some x.1 ≡ Some c = q in cc) in subst (IsSequentAt g) same a.0
-    go false q = sequent-at g es n c q a.1
+    go : (stored_at es n ≡ Some c → IsSequentAt g c) → (b : Bool) → cond b (Some x.1) (stored_at es n) ≡ Some c → IsSequentAt g c
+    go rest true q = let same : x.1 ≡ c = (let z : Some x.1 ≡ Some c = q in cc) in subst (IsSequentAt g) same a.0
+    go rest false q = rest q
 
 pub fit-end : (hs : List RuleHead) (cs : List Constraint) (i : ℕ) → length cs ≤ i → fit_heads (drop i hs) (drop i cs) ≡ true
 fit-end hs cs i h = ap (fit_heads (drop i hs)) (past cs i h) ∙ none (drop i hs)

@@ -19,11 +19,11 @@ use Rattle.sequent_rules.specs.inside.Tuples.{picked, choices, numbered, all_num
 -- the constraint of a number has it
 pub numbered-number : (cs : List Constraint) (n : ℕ) → (numbered cs n).number ≡ n
 numbered-number [] n = refl
-numbered-number (c ∷ cs) n = go (nat_eq c.number n) refl
+numbered-number (c ∷ cs) n = go (numbered-number cs n) (nat_eq c.number n) refl
   where
-    go : (b : Bool) → nat_eq c.number n ≡ b → (cond b c (numbered cs n)).number ≡ n
-    go true e = eqb-true c.number n e
-    go false e = numbered-number cs n
+    go : (numbered cs n).number ≡ n → (b : Bool) → nat_eq c.number n ≡ b → (cond b c (numbered cs n)).number ≡ n
+    go rest true e = eqb-true c.number n e
+    go rest false e = rest
 
 pub numbers-back : (cs : List Constraint) (ns : List ℕ) → map (λ c. c.number) (map (numbered cs) ns) ≡ ns
 numbers-back cs [] = refl
@@ -136,13 +136,13 @@ module _ (g : Graph) where
   -- the constraint that is stored under a number
   pub numbered-stored : (es : List (ℕ × suspended.Constraint (List Hyp))) (n : ℕ) (c : suspended.Constraint (List Hyp)) → stored_at es n ≡ Some c → numbered (read_all es) n ≡ constraint_in g (n, c)
   numbered-stored [] n c e = absurd (let k : ◌≡◌ {A = Option (suspended.Constraint (List Hyp))} None (Some c) = e in cc)
-  numbered-stored (d ∷ es) n c e = go (nat_eq d.0 n) refl e
+  numbered-stored (d ∷ es) n c e = go (numbered-stored es n c) (nat_eq d.0 n) refl e
     where
-      go : (b : Bool) → nat_eq d.0 n ≡ b → cond b (Some d.1) (stored_at es n) ≡ Some c → cond b (constraint_in g d) (numbered (read_all es) n) ≡ constraint_in g (n, c)
-      go true q k =
+      go : (stored_at es n ≡ Some c → numbered (read_all es) n ≡ constraint_in g (n, c)) → (b : Bool) → nat_eq d.0 n ≡ b → cond b (Some d.1) (stored_at es n) ≡ Some c → cond b (constraint_in g d) (numbered (read_all es) n) ≡ constraint_in g (n, c)
+      go rest true q k =
           let same : d.1 ≡ c = (let z : Some d.1 ≡ Some c = k in cc) in
           ap₂ (λ (m : ℕ) (x : suspended.Constraint (List Hyp)). constraint_in g (m, x)) (eqb-true d.0 n q) same
-      go false q k = numbered-stored es n c k
+      go rest false q k = rest k
 
 -- the rules from a place on
 pub rules-next : (b : Branch) (rs : List Rule) (i : ℕ) (r : Rule) → drop i rs ≡ r ∷ drop (suc i) rs

@@ -27,3 +27,12 @@ match_arg-requires-clause-argument c = (every-get (λ e. IsValid c.loop-i.heap e
 
 pub match_arg-requires-clause-first : goal.match_arg-requires-clause-first
 match_arg-requires-clause-first c = c.loop-i.invariant.first
+
+pub returns-in-Ok-false-clause-grows : goal.returns-in-Ok-false-clause-grows
+returns-in-Ok-false-clause-grows c = grows-trans c.args.heap.now c.loop-i.heap c.match_arg.new.heap c.args.trail.now.entries c.loop-i.trail.entries c.match_arg.new.trail.entries c.loop-i.invariant.solving.grows c.match_arg.ensures.grows
+
+pub returns-in-Err-clause-grows : goal.returns-in-Err-clause-grows
+returns-in-Err-clause-grows c = grows-trans c.args.heap.now c.loop-i.heap c.match_arg.new.heap c.args.trail.now.entries c.loop-i.trail.entries c.match_arg.new.trail.entries c.loop-i.invariant.solving.grows c.match_arg.ensures.grows
+
+pub returns-clause-answer : goal.returns-clause-answer
+returns-clause-answer c = solving-ends c.args.first_fresh.index c.args.depth c.args.equations.now c.args.heap.now c.args.trail.now.entries c.loop-i.heap c.loop-i.trail.entries c.loop-i.i c.loop-i.invariant.solving (omega arith)

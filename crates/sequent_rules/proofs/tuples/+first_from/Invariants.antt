@@ -4,7 +4,7 @@ use Rattle.ref_terms.specs.search.Program.{Program, Rule}
 use Rattle.sequent_rules.specs.Branches.{IsSeenAs}
 use Rattle.sequent_rules.specs.inside.Scans.{IsScan}
 use Rattle.sequent_rules.specs.inside.Tuples.{first_tried, going_on, picked_on}
-use Rattle.sequent_rules.proofs.tuples.first_from.Given as goal
+use Rattle.sequent_rules.proofs.tuples.+first_from.Given as goal
 
 abbrev pub decreases-first_from : goal.decreases-first_from
 decreases-first_from g l = l.left
