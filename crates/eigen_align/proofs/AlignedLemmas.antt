@@ -5,12 +5,11 @@ use Rattle.level_terms.specs.Graph.{Graph}
 use Rattle.level_terms.specs.Growth.{Grows}
 use Rattle.level_terms.specs.Sound.{IsSound}
 use Rattle.level_terms.specs.Valid.{IsValid}
-use Rattle.level_terms.specs.Reading.{read}
 use Rattle.level_terms.proofs.LocalLemmas.{readings_local}
 use Rattle.level_terms.proofs.ReadLemmas.{valid-below, grown-reads}
 use Rattle.level_terms.proofs.ValidLemmas.{growth_keeps_valid, valid_deeper}
 use Rattle.ref_terms.specs.terms.Term.{Term}
-use Rattle.ref_terms.specs.search.Joint.{map_at, over_joint}
+use Rattle.ref_terms.specs.search.Joint.{over_joint}
 use Rattle.ref_terms.specs.unification.Closing.{up_from, names_below}
 use Rattle.beta_fragment.specs.Names.{names, renamed, AllBelow}
 use Rattle.eigen_align.specs.declared.sequent.Sequent.{Sequent}

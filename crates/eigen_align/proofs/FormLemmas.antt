@@ -1,9 +1,8 @@
 -- What alignment sees of a term, by its form.
-use Rattle.std.proofs.Common.{◌≡◌, ℕ, zero, suc, ◌++◌, List, [], ◌∷◌, map, Bool, true, false, cond, nat_lt, Option, Some, None, option_map, option_and_then, slice_get, refl, arith, sym, subst, ap, ◌∙◌, append_assoc, append-nil}
+use Rattle.std.proofs.Common.{◌≡◌, ℕ, zero, suc, ◌++◌, List, [], ◌∷◌, Bool, false, cond, Option, Some, None, option_map, option_and_then, slice_get, refl, arith, sym, subst, ap, ◌∙◌, append_assoc, append-nil}
 use Rattle.std.proofs.lemmas.Bool.{le-ltb}
 use Rattle.std.proofs.lemmas.Option.{slice_get-map}
 use Rattle.level_terms.specs.declared.node.TermId.{TermId}
-use Rattle.level_terms.specs.declared.node.VarId.{VarId}
 use Rattle.level_terms.specs.Graph.{Graph}
 use Rattle.level_terms.specs.Valid.{IsValid}
 use Rattle.level_terms.specs.Reading.{read}

@@ -1,5 +1,5 @@
 -- What is identified, name by name.
-use Rattle.std.proofs.Common.{◌≡◌, ℕ, zero, suc, ◌+◌, ◌<◌, ◌≤◌, Bool, true, false, not, ◌&&◌, cond, nat_eq, List, [], ◌∷◌, ◌++◌, length, set, drop, get_or, slice_index, Option, Some, None, option_map, option_and_then, refl, sym, ap, ap₂, ◌∙◌, arith, eqb-true, eq-eqb, ne_eqb}
+use Rattle.std.proofs.Common.{◌≡◌, ℕ, zero, suc, ◌+◌, ◌<◌, ◌≤◌, Bool, true, false, not, ◌&&◌, cond, nat_eq, List, [], ◌∷◌, length, set, drop, get_or, slice_index, Option, Some, None, option_map, option_and_then, refl, sym, ap, ap₂, ◌∙◌, arith, eqb-true, eq-eqb, ne_eqb}
 use Rattle.ref_terms.specs.search.Joint.{gets_joint, identified, paired}
 use Rattle.eigen_align.specs.inside.Identified.{allowed, all_allowed}
 

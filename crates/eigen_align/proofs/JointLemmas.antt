@@ -1,5 +1,5 @@
 -- Joint names, sequent by sequent and pair by pair.
-use Rattle.std.proofs.Common.{◌≡◌, ℕ, zero, suc, ◌+◌, ◌-◌, ◌<◌, ◌≤◌, Bool, true, false, cond, nat_eq, List, [], ◌∷◌, ◌++◌, map, filter, length, drop, set, replicate, get_or, slice_get, slice_index, Option, Some, None, IfSome, option_map, option_and_then, refl, sym, subst, ap, ap₂, ◌∙◌, arith, append_assoc, append-nil, length-append}
+use Rattle.std.proofs.Common.{◌≡◌, ℕ, zero, suc, ◌+◌, ◌<◌, ◌≤◌, Bool, true, false, cond, nat_eq, List, [], ◌∷◌, ◌++◌, map, filter, length, drop, set, replicate, get_or, slice_get, slice_index, Option, Some, None, IfSome, option_map, option_and_then, refl, sym, subst, ap, ap₂, ◌∙◌, arith, append_assoc, append-nil, length-append}
 use Rattle.std.proofs.lemmas.Bool.{eqb-true, eqb-false}
 use Rattle.std.proofs.lemmas.Option.{slice_get-map, slice_get-get_or}
 use Rattle.level_terms.specs.declared.node.TermId.{TermId}
@@ -7,7 +7,6 @@ use Rattle.level_terms.specs.Graph.{Graph}
 use Rattle.level_terms.specs.Growth.{Grows}
 use Rattle.level_terms.specs.Sound.{IsSound}
 use Rattle.level_terms.specs.Valid.{IsValid}
-use Rattle.level_terms.specs.Reading.{read}
 use Rattle.level_terms.proofs.ReadLemmas.{valid-below, grown-reads}
 use Rattle.level_terms.proofs.ValidLemmas.{growth_keeps_valid}
 use Rattle.ref_terms.specs.terms.Term.{Term}

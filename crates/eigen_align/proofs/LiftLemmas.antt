@@ -1,5 +1,5 @@
 -- A term with its names renamed is the term over joint names.
-use Rattle.std.proofs.Common.{◌≡◌, ℕ, zero, suc, ◌||◌, List, Bool, true, false, slice_index, refl, sym, ap, ap₂, ◌∙◌}
+use Rattle.std.proofs.Common.{◌≡◌, ℕ, zero, suc, List, true, false, refl, sym, ap, ap₂, ◌∙◌}
 use Rattle.level_terms.specs.Graph.{Graph}
 use Rattle.level_terms.specs.Laws.{ArePlaces}
 use Rattle.level_terms.specs.Sound.{IsSound}

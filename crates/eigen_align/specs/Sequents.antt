@@ -1,5 +1,5 @@
 -- Sequents as the reference's constraints, and joint names as its own.
-use Rattle.std.specs.Prelude.{◌≡◌, ℕ, ◌<◌, List, [], map, length, IfSome}
+use Rattle.std.specs.Prelude.{◌≡◌, ◌<◌, List, [], map, length, IfSome}
 use Rattle.level_terms.specs.Graph.{Graph}
 use Rattle.level_terms.specs.Reading.{read}
 use Rattle.level_terms.specs.Valid.{IsValid}

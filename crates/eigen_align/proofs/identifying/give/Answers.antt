@@ -1,4 +1,4 @@
-use Rattle.std.proofs.Common.{◌≡◌, ◌∙◌, ◌<◌, ℕ, Option, Some, IfSome, true, false, sym, ap, arith, length}
+use Rattle.std.proofs.Common.{◌∙◌, ◌<◌, ℕ, Option, Some, IfSome, sym, ap}
 use Rattle.eigen_align.specs.inside.Identified.{all_allowed}
 use Rattle.eigen_align.proofs.IdentifiedLemmas.{gets-set, gets-none}
 use Rattle.eigen_align.proofs.JointLemmas.{every-set}

@@ -1,7 +1,5 @@
-use Rattle.std.proofs.Common.{◌≡◌, ◌∙◌, ◌<◌, ◌≤◌, ◌+◌, ℕ, suc, List, Option, Some, None, cond, true, false, Bool, length, drop, get_or, option_and_then, refl, sym, subst, ap, arith}
-use Rattle.ref_terms.specs.search.Joint.{gets_joint, identified, paired}
-use Rattle.beta_fragment.specs.Names.{AllBelow}
-use Rattle.eigen_align.specs.Counts.{AreBelow}
+use Rattle.std.proofs.Common.{◌≡◌, ◌∙◌, ◌+◌, ℕ, suc, Some, None, cond, Bool, length, drop, get_or, option_and_then, sym, subst, ap, arith}
+use Rattle.ref_terms.specs.search.Joint.{identified, paired}
 use Rattle.eigen_align.proofs.IdentifiedLemmas.{unequal, identified-step, identified-fails, identified-end}
 use Rattle.eigen_align.proofs.identifying.identify.Goals as goal
 

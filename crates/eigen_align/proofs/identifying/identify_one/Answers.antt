@@ -1,4 +1,4 @@
-use Rattle.std.proofs.Common.{◌≡◌, ◌∙◌, ℕ, List, Bool, cond, nat_eq, Some, None, length, option_and_then, sym, subst, ap, ap₂, eq-eqb, ne_eqb}
+use Rattle.std.proofs.Common.{◌∙◌, ℕ, List, Bool, cond, Some, None, length, option_and_then, sym, subst, ap, ap₂, eq-eqb, ne_eqb}
 use Rattle.ref_terms.specs.search.Joint.{identified, paired}
 use Rattle.beta_fragment.specs.Names.{AllBelow}
 use Rattle.eigen_align.proofs.identifying.identify_one.Goals as goal

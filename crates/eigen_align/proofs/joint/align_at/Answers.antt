@@ -1,4 +1,4 @@
-use Rattle.std.proofs.Common.{◌≡◌, [], Bool, cond, Some, sym, ap, ne_eqb}
+use Rattle.std.proofs.Common.{[], Bool, cond, Some, sym, ap, ne_eqb}
 use Rattle.level_terms.proofs.GrowthLemmas.{grows-refl}
 use Rattle.ref_terms.specs.search.Joint.{aligned}
 use Rattle.eigen_align.specs.Sequents.{sequents_read}

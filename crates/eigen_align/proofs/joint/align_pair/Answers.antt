@@ -1,7 +1,7 @@
-use Rattle.std.proofs.Common.{◌≡◌, ◌∙◌, ◌<◌, ℕ, List, [], Option, Some, None, IfSome, length, get_or, slice_index, option_map, option_and_then, sym, subst, ap, arith}
+use Rattle.std.proofs.Common.{◌∙◌, ℕ, List, [], Some, None, IfSome, length, get_or, option_map, option_and_then, sym, subst, ap, arith}
 use Rattle.level_terms.proofs.GrowthLemmas.{grows-trans}
 use Rattle.ref_terms.specs.search.Branch.{Constraint}
-use Rattle.ref_terms.specs.search.Joint.{map_at, spine_at, identified, paired_spines}
+use Rattle.ref_terms.specs.search.Joint.{spine_at, identified, paired_spines}
 use Rattle.beta_fragment.specs.Names.{AllBelow}
 use Rattle.eigen_align.specs.declared.sequent.Sequent.{Sequent}
 use Rattle.eigen_align.specs.Sequents.{IsSequent}

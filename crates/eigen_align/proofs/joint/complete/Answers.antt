@@ -1,4 +1,4 @@
-use Rattle.std.proofs.Common.{◌≡◌, ◌∙◌, ◌<◌, ◌+◌, ◌++◌, ℕ, suc, List, None, length, drop, sym, subst, arith}
+use Rattle.std.proofs.Common.{◌≡◌, ◌∙◌, ◌<◌, ◌+◌, ◌++◌, ℕ, suc, None, length, drop, sym, subst, arith}
 use Rattle.ref_terms.specs.search.Joint.{completed, missing}
 use Rattle.eigen_align.proofs.JointLemmas.{complete-step, missing-step, complete-end, missing-end}
 use Rattle.eigen_align.proofs.joint.complete.Goals as goal

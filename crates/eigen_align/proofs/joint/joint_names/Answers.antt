@@ -1,16 +1,15 @@
-use Rattle.std.proofs.Common.{◌≡◌, ◌∙◌, ◌<◌, ◌≤◌, ◌+◌, ◌∷◌, ◌++◌, ℕ, suc, nat_eq, List, [], Option, Some, None, IfSome, filter, replicate, length, drop, get_or, slice_index, map, option_map, option_and_then, refl, sym, subst, ap, ap₂, arith, length-append}
+use Rattle.std.proofs.Common.{◌≡◌, ◌∙◌, ◌+◌, ◌∷◌, ℕ, suc, nat_eq, List, [], Option, Some, None, IfSome, filter, replicate, length, drop, get_or, slice_index, option_map, refl, sym, subst, ap, ap₂, arith, length-append}
 use Rattle.std.proofs.lemmas.List.{length-map}
 use Rattle.level_terms.proofs.GrowthLemmas.{grows-refl, grows-trans}
-use Rattle.ref_terms.specs.unification.Closing.{names_below}
 use Rattle.ref_terms.specs.declared.pair.Pair.{Pair}
 use Rattle.ref_terms.specs.search.Branch.{Constraint}
-use Rattle.ref_terms.specs.search.Joint.{map_at, completed, missing, with_head, joined, all_aligned, joint}
+use Rattle.ref_terms.specs.search.Joint.{completed, with_head, joined, all_aligned, joint}
 use Rattle.beta_fragment.specs.Names.{AllBelow}
 use Rattle.eigen_align.specs.Counts.{depths_of, HaveCounts, HaveBelow, AreBelow}
 use Rattle.eigen_align.specs.Sequents.{sequent_read, sequents_read, joint_read}
 use Rattle.eigen_align.specs.declared.sequent.Sequent.{Sequent}
 use Rattle.eigen_align.proofs.IdentifiedLemmas.{drop-end}
-use Rattle.eigen_align.proofs.JointLemmas.{depth-at, joint-first, joined-next, sequents-stay, sequents-kept, counts-more, below-more, completed-count, completed-below, maps-more, depth-more, first-counts, first-below}
+use Rattle.eigen_align.proofs.JointLemmas.{joint-first, joined-next, sequents-stay, sequents-kept, counts-more, below-more, completed-count, completed-below, maps-more, depth-more, first-counts, first-below}
 use Rattle.eigen_align.proofs.joint.joint_names.Goals as goal
 
 -- what an index past the end would give

@@ -1,4 +1,4 @@
-use Rattle.std.proofs.Common.{◌≡◌, ◌∙◌, ◌++◌, ◌∷◌, [], ◌+◌, ℕ, suc, List, refl, sym, ap, arith}
+use Rattle.std.proofs.Common.{◌≡◌, ◌∙◌, ◌++◌, ◌∷◌, [], ◌+◌, ℕ, suc, List, sym, ap, arith}
 use Rattle.ref_terms.specs.unification.Closing.{names_below}
 use Rattle.eigen_align.proofs.JointLemmas.{own-more}
 use Rattle.eigen_align.proofs.joint.own_map.Goals as goal

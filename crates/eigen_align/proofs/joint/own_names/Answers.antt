@@ -1,9 +1,8 @@
-use Rattle.std.proofs.Common.{◌≡◌, ◌∙◌, ◌<◌, ◌+◌, ℕ, suc, List, [], Bool, true, false, cond, Option, Some, None, IfSome, length, replicate, drop, get_or, slice_index, refl, sym, subst, ap, arith}
+use Rattle.std.proofs.Common.{◌≡◌, ◌∙◌, ◌<◌, ◌+◌, ℕ, suc, List, [], Bool, cond, Option, Some, None, IfSome, length, replicate, drop, get_or, slice_index, refl, sym, subst, ap, arith}
 use Rattle.level_terms.proofs.GrowthLemmas.{grows-refl, grows-trans}
 use Rattle.ref_terms.specs.declared.pair.Pair.{Pair}
 use Rattle.ref_terms.specs.search.Branch.{Constraint}
-use Rattle.ref_terms.specs.search.Used.{Every}
-use Rattle.eigen_align.specs.Counts.{depths_of, HaveBelow, AreBelow}
+use Rattle.eigen_align.specs.Counts.{depths_of, AreBelow}
 use Rattle.eigen_align.specs.Sequents.{sequents_read}
 use Rattle.eigen_align.specs.declared.sequent.Sequent.{Sequent}
 use Rattle.eigen_align.specs.inside.Identified.{aligned_at, all_aligned_at}

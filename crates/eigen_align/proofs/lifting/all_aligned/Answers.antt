@@ -1,6 +1,5 @@
-use Rattle.std.proofs.Common.{◌≡◌, ◌∙◌, ◌<◌, ◌≤◌, ◌+◌, ℕ, suc, List, [], None, length, get_or, take, refl, sym, subst, ap, arith}
+use Rattle.std.proofs.Common.{◌≡◌, ◌∙◌, ◌<◌, ◌+◌, ℕ, suc, List, [], None, length, get_or, take, refl, sym, subst, ap, arith}
 use Rattle.level_terms.proofs.GrowthLemmas.{grows-refl, grows-trans}
-use Rattle.ref_terms.specs.search.Joint.{map_at}
 use Rattle.beta_fragment.specs.Names.{AllBelow}
 use Rattle.eigen_align.specs.declared.sequent.Sequent.{Sequent}
 use Rattle.eigen_align.specs.Sequents.{IsSequent}

@@ -1,4 +1,4 @@
-use Rattle.std.proofs.Common.{◌≡◌, ◌∙◌, ℕ, List, [], length, sym, subst, ap}
+use Rattle.std.proofs.Common.{[]}
 use Rattle.level_terms.proofs.GrowthLemmas.{grows-trans}
 use Rattle.eigen_align.proofs.JointLemmas.{sequents-kept}
 use Rattle.eigen_align.proofs.AlignedLemmas.{all-from}

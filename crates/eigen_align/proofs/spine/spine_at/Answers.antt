@@ -1,8 +1,8 @@
-use Rattle.std.proofs.Common.{◌≡◌, ℕ, List, [], Option, Some, None, ◌∙◌, sym, ap, subst, option_map, IfOk}
+use Rattle.std.proofs.Common.{◌≡◌, ℕ, List, [], Option, Some, None, ◌∙◌, sym, subst, option_map, IfOk}
 use Rattle.level_terms.specs.Reading.{read}
 use Rattle.level_terms.proofs.GrowthLemmas.{grows-trans}
 use Rattle.beta_fragment.specs.Names.{names}
-use Rattle.eigen_align.specs.inside.Spines.{spine_read, form_args}
+use Rattle.eigen_align.specs.inside.Spines.{spine_read}
 use Rattle.eigen_align.proofs.FormLemmas.{argument-valid, argument-spine}
 use Rattle.eigen_align.proofs.spine.spine_at.Goals as goal
 

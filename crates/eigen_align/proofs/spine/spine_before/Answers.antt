@@ -1,5 +1,5 @@
-use Rattle.std.proofs.Common.{◌≡◌, ℕ, List, [], ◌∷◌, map, Option, Some, None, option_map, refl, sym, ap, ◌∙◌}
-use Rattle.ref_terms.specs.unification.Pattern.{SpineName, names_of, of_name}
+use Rattle.std.proofs.Common.{◌≡◌, ℕ, List, [], ◌∷◌, map, Some, option_map, refl, sym, ap, ◌∙◌}
+use Rattle.ref_terms.specs.unification.Pattern.{names_of, of_name}
 use Rattle.eigen_align.proofs.spine.spine_before.Goals as goal
 
 -- the names of spine names are those names
