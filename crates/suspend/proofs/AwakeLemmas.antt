@@ -62,33 +62,3 @@ awake-gained g h sound w depth (k ∷ ks) u =
 module _ {X : Type 0} where
   pub all-valid : (g : Graph) (log : List (Event X)) → Keyed log g → Every (λ e. KeysValid g e.1.names e.1.keys) (stored log)
   all-valid g log w = every-weaker (λ e. IsKeyed g (rows log) (waiting log) e.0 e.1.names e.1.keys) (λ e. KeysValid g e.1.names e.1.keys) (λ e u. u.0) (stored log) w
-
-  pub goes-past : (g : Graph) (e : ℕ × Constraint X) (es : List (ℕ × Constraint X)) → awake_in g e.1.keys ≡ false → first_awake g (e ∷ es) ≡ first_awake g es
-  goes-past g e es k = ap (λ (b : Bool). if b then Some e.0 else first_awake g es) k
-
-  pub stops-at : (g : Graph) (e : ℕ × Constraint X) (es : List (ℕ × Constraint X)) → awake_in g e.1.keys ≡ true → first_awake g (e ∷ es) ≡ Some e.0
-  stops-at g e es k = ap (λ (b : Bool). if b then Some e.0 else first_awake g es) k
-
-  -- a log of additions, removals and firings alone: all are to be looked at
-  pub all-wait : (notes : List Note) (cs : List (Constraint X)) (fs : List Fired) → Every (λ e. has (waiting (told notes cs fs)) e.0 ≡ true) (stored (told notes cs fs))
-  all-wait [] cs fs = tt
-  all-wait (Joins ∷ older) [] fs = tt
-  all-wait (Joins ∷ older) (c ∷ cs) fs =
-      let log = told older cs fs in
-      every-last (λ e. has (suc (added log) ∷ waiting log) e.0 ≡ true) (stored log) (suc (added log), c)
-      (every-weaker (λ e. has (waiting log) e.0 ≡ true) (λ e. has (suc (added log) ∷ waiting log) e.0 ≡ true) (λ e z. or-later (nat_eq e.0 (suc (added log))) (has (waiting log) e.0) z) (stored log) (all-wait older cs fs))
-      (ap (λ (b : Bool). b || has (waiting log) (suc (added log))) (nat-eq-itself (suc (added log))))
-  all-wait (Leaves n ∷ older) cs fs =
-      let log = told older cs fs in
-      every-filtered (λ e. has (waiting log) e.0 ≡ true) (λ e. has (filter (λ m. not (nat_eq m n)) (waiting log)) e.0 ≡ true) (λ e. not (nat_eq e.0 n)) (λ e apart z. other-number n e.0 (waiting log) (not-this e.0 n apart) z) (stored log) (all-wait older cs fs)
-  all-wait (Fires ∷ older) cs [] = tt
-  all-wait (Fires ∷ older) cs (f ∷ fs) = all-wait older cs fs
-
-  pub follows : (log : List (Event X)) (h : Graph) (entries : List Change) → Every (λ e. has (waiting log) e.0 ≡ true) (stored log) → Follows log log h entries
-  follows log h entries all g sound w known =
-      every-both (λ e. has (waiting log) e.0 ≡ true) (λ e. IsKeyed g (rows log) (waiting log) e.0 e.1.names e.1.keys) (λ e. IsKeyed h (rows log) (waiting log) e.0 e.1.names e.1.keys)
-      (λ e a u. (keys-valid g h [] entries sound w e.1.names e.1.keys u.0, inl a)) (stored log) all known
-
-  pub step-valid : (g : Graph) (rest : List (ℕ × Constraint X)) (n : ℕ) (c : Constraint X) (more : List (ℕ × Constraint X)) → rest ≡ (n, c) ∷ more → Every (λ e. KeysValid g e.1.names e.1.keys) rest
-      → KeysValid g c.names c.keys × Every (λ e. KeysValid g e.1.names e.1.keys) more
-  step-valid g rest n c more e w = subst (Every (λ e. KeysValid g e.1.names e.1.keys)) e w
