@@ -9,19 +9,47 @@ ghost use Rattle.ref_terms.specs.terms.Term.{Term};
 ghost use Rattle.ref_terms.specs.search.Value.{is_flex};
 ghost use Rattle.ref_terms.specs.search.Waking.{heading};
 ghost use Rattle.suspend.specs.Looked.{LooksAt};
-ghost use Rattle.suspend.specs.Store.{is_stored, waiting, has};
-ghost use Rattle.suspend.specs.Keyed.{awake_in, keys_read, Keyed, KeysValid};
-ghost use Rattle.suspend.specs.inside.Waking.{ShowsHead, LooksOn, AllHead, AreHeadedBy, IsUp, IsDown};
+ghost use Rattle.suspend.specs.Store.{is_stored, stored, waiting, has};
+ghost use Rattle.suspend.specs.Keyed.{awake_in, first_awake, keys_read, Keyed, KeysValid};
+ghost use Rattle.suspend.specs.inside.Waking.{AreQueued, ShowsHead, LooksOn, AllHead, AreHeadedBy, IsUp, IsDown};
 
 use crate::ledger::Ledger;
+use crate::queue::Queue;
 use beta_fragment::{Whnf, whnf};
 use level_terms::{Heap, TermId};
 use std::alloc::{AllocError, Global};
 
+/// The number of the first constraint with a key that isn't headed by a variable, if there is one. What isn't in the queue
+/// isn't to be looked at. Answers `AllocError` on want of memory alone, as each call here.
+pub(crate) fn first_up<C: Drop>(
+    alloc: Global,
+    ledger: &mut Ledger<C>,
+    queue: &mut Queue,
+    heap: &mut Heap,
+) -> Result<Option<u64>, AllocError>
+    requires keyed { Keyed ledger.old heap.old }
+    requires queued { AreQueued ledger.old false queue.old }
+    ensures first { IfOk result (λ first. first ≡ first_awake heap.old (stored ledger.old)) }
+    ensures keyed { Keyed ledger.new heap.new }
+    ensures queued { AreQueued ledger.new false queue.new }
+    ensures on { LooksOn ledger.old ledger.new }
+    ensures gains { GainsNodes heap.old heap.new }
+{
+    heap.is_sound();
+    while let Some(number) = queue.first() {
+        let up = look_at(alloc, ledger, heap, number)?;
+        if up {
+            return Ok(Some(number));
+        }
+        queue.leave(number);
+    }
+    ledger.rest()?;
+    Ok(None)
+}
+
 /// Looks at the keys of the constraint of a number, and answers whether one of them isn't headed by a variable. Else the
 /// variables get rows with it, and it isn't to be looked at any more. Where none of the number is stored it answers false.
-/// Answers `AllocError` on want of memory alone, as each call here.
-pub(crate) fn look_at<C: Drop>(
+fn look_at<C: Drop>(
     alloc: Global,
     ledger: &mut Ledger<C>,
     heap: &mut Heap,

@@ -10,7 +10,7 @@ use crate::constraint::{Constraint, Fired};
 use crate::following::renamed_to;
 use crate::iter::StoreIter;
 use crate::ledger::Ledger;
-use crate::looking::look_at;
+use crate::looking::first_up;
 use crate::queue::Queue;
 use level_terms::{Change, Heap, VarId};
 use std::alloc::{AllocError, AllocFailed, Global};
@@ -215,15 +215,7 @@ impl<C: Drop> Store<C> {
         heap.is_sound();
         refill(self.all, &self.ledger, &mut self.queue)?;
         self.all = false;
-        while let Some(number) = self.queue.first() {
-            let up = look_at(self.alloc, &mut self.ledger, heap, number)?;
-            if up {
-                return Ok(Some(number));
-            }
-            self.queue.leave(number);
-        }
-        self.ledger.rest()?;
-        Ok(None)
+        first_up(self.alloc, &mut self.ledger, &mut self.queue, heap)
     }
 
     /// The place after the newest event.
