@@ -237,9 +237,9 @@ module _ {X : Type 0} where
       let assigned : h.assigned ≡ newer ++ a ∷ g.assigned = ap (λ (x : Graph). x.assigned) w in
       let same : record h { assigned = g.assigned } ≡ g = ap (λ (x : Graph). record x { assigned = g.assigned }) w in
       let here : a.value ≡ b.value = some-value a.value b.value
-          (sym (value-older newer a g.assigned h.nodes (subst (NoCycle h.nodes) assigned sound.acyclic)) ∙ ap (λ (xs : List Assigned). value_in xs a.variable) (sym assigned) ∙ ap (value_in h.assigned) e ∙ b.assigned) in
+      (sym (value-older newer a g.assigned h.nodes (subst (NoCycle h.nodes) assigned sound.acyclic)) ∙ ap (λ (xs : List Assigned). value_in xs a.variable) (sym assigned) ∙ ap (value_in h.assigned) e ∙ b.assigned) in
       let value : assigned_term (record h { assigned = g.assigned }) a ≡ At (Var u) = becomes-variable h g.assigned a u sound (ap (slice_index h.depths) e ∙ b.without_levels) (subst (λ t. IsFreeVariable h t u) (sym here) b.free)
-          (λ x z. free-older (newer ++ a ∷ []) g.assigned x (ap (λ (xs : List Assigned). value_in xs x) (append_assoc newer (a ∷ []) g.assigned ∙ sym assigned) ∙ z)) in
+      (λ x z. free-older (newer ++ a ∷ []) g.assigned x (ap (λ (xs : List Assigned). value_in xs x) (append_assoc newer (a ∷ []) g.assigned ∙ sym assigned) ∙ z)) in
       subst (λ (x : ℕ). Keyed (becomes x u ∷ log) (record g { assigned = a ∷ g.assigned })) e (after-renaming X g a u log (ap (λ (x : Graph). assigned_term x a) (sym same) ∙ value) k)
 
   -- following one more

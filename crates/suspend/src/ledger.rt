@@ -9,7 +9,7 @@ ghost use Rattle.suspend.specs.inside.Waking.{Watches, RestsAt};
 use crate::constraint::{Constraint, Fired};
 use crate::iter::StoreIter;
 use crate::note::Note;
-use crate::pairs::has_pair;
+use crate::pairs::Pairs;
 use dance_list::{DanceList, Node};
 use std::alloc::{AllocError, AllocFailed, Global};
 use std::marker::Model;
@@ -22,7 +22,7 @@ use watch_lists::WatchLists;
 pub(crate) struct Ledger<C: Drop> {
     notes: Trail<Note>,
     constraints: Vec<Constraint<C>>,
-    pairs: Vec<Fired>,
+    pairs: Pairs,
     places: Vec<Node>,
     standing: Vec<bool>,
     list: DanceList<u64>,
@@ -37,9 +37,9 @@ impl<C: Drop> Model for Ledger<C> {
 
     ghost Value = { List (Event C) };
 
-    ghost view = { λ s. told (reverse s.notes.entries) (reverse s.constraints.items) (reverse s.pairs.items) };
+    ghost view = { λ s. told (reverse s.notes.entries) (reverse s.constraints.items) (reverse s.pairs) };
 
-    ghost invariant = { λ s. IsLedger s.notes.entries s.notes.spare s.constraints.items s.pairs.items s.places.items (nodes s.list) (linked s.list) (unlinked s.list) s.watches s.standing.items };
+    ghost invariant = { λ s. IsLedger s.notes.entries s.notes.spare s.constraints.items s.pairs s.places.items (nodes s.list) (linked s.list) (unlinked s.list) s.watches s.standing.items };
 }
 
 impl<C: Drop> Ledger<C> {
@@ -50,7 +50,7 @@ impl<C: Drop> Ledger<C> {
         Ledger {
             notes: Trail::new(alloc),
             constraints: Vec::new(alloc),
-            pairs: Vec::new(alloc),
+            pairs: Pairs::new(alloc),
             places: Vec::new(alloc),
             standing: Vec::new(alloc),
             list: DanceList::new(alloc),
@@ -111,12 +111,12 @@ impl<C: Drop> Ledger<C> {
 
     /// A rule fires.
     pub(crate) fn fire(&mut self, pair: Fired) -> Result<(), AllocError>
+        requires { has_fired (firings self.old) pair ≡ false }
         ensures ok { OnOk result (self.new ≡ fires pair ∷ self.old) }
         ensures err { OnErr result (self.new ≡ self.old) }
     {
         self.notes.reserve(2)?;
-        self.pairs.reserve(1)?;
-        self.pairs.push_reserved(pair);
+        self.pairs.push(pair)?;
         self.notes.note(Note::Fires);
         Ok(())
     }
@@ -198,7 +198,7 @@ impl<C: Drop> Ledger<C> {
     pub(crate) fn fired(&self, pair: &Fired) -> bool
         ensures { result ≡ has_fired (firings self.now) pair.now }
     {
-        has_pair(self.pairs.as_slice(), pair)
+        self.pairs.has(pair)
     }
 
     /// Whether the number is that of a stored constraint.
@@ -281,7 +281,7 @@ impl<C: Drop> Ledger<C> {
                 self.list.relink(node);
                 self.standing[(id - 1) as usize] = true;
             }
-            Some(Note::Fires) => drop_last(&mut self.pairs),
+            Some(Note::Fires) => self.pairs.drop_last(),
             Some(Note::Heads(_, _)) => self.watches.take_back(),
             Some(Note::Becomes(_, _)) => self.watches.take_back(),
             Some(Note::Waits(_)) => {}

@@ -116,7 +116,12 @@ fn heads_of(
 }
 
 /// The variable that heads a term, if one does.
-fn head_of(alloc: Global, heap: &mut Heap, t: TermId, depth: usize) -> Result<Option<u64>, AllocError>
+fn head_of(
+    alloc: Global,
+    heap: &mut Heap,
+    t: TermId,
+    depth: usize,
+) -> Result<Option<u64>, AllocError>
     requires valid { IsValid heap.old t.index depth }
     ensures head { IfOk result (λ o. ShowsHead (read heap.old t.index names) o) }
     ensures gains { GainsNodes heap.old heap.new }
