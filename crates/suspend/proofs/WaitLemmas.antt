@@ -143,12 +143,16 @@ module _ {X : Type 0} where
   pub queued-down : (log : List (Event X)) (all : Bool) (q q' : List ℕ) (k : ℕ) → IsDown log k → Leaves q k q' → AreQueued log all q → AreQueued log all q'
   queued-down log all q q' k down gone w n s h = go (w n s h) (nat_eq n k) refl
     where
+      both : nat_eq n k ≡ true → ⊥
+      both e =
+          let same = eqb-true n k e in
+          let none : has (waiting log) n ≡ false = ap (has (waiting log)) same ∙ down (ap (is_stored log) (sym same) ∙ s) in
+          let y : false ≡ true = sym none ∙ h in
+          cc
+
       go : (all ≡ true) ⊎ (has q n ≡ true) → (b : Bool) → nat_eq n k ≡ b → (all ≡ true) ⊎ (has q' n ≡ true)
       go (inl z) b e = inl z
-      go (inr z) true e = absurd (
-      let same = eqb-true n k e in
-      let none : has (waiting log) n ≡ false = ap (has (waiting log)) same ∙ down (ap (is_stored log) (sym same) ∙ s) in
-      let y : false ≡ true = sym none ∙ h in cc)
+      go (inr z) true e = absurd (both e)
       go (inr z) false e = inr (gone.0 n e z)
 
   -- looking goes on
@@ -198,14 +202,16 @@ module _ {X : Type 0} where
   -- the constraint of a number stands there alone
   pub known-by-number : (es : List (ℕ × Constraint X)) (n : ℕ) → IsAscending es → Every (λ e. nat_eq n e.0 ≡ true → stored_at es n ≡ Some e.1) es
   known-by-number [] n w = tt
-  known-by-number (e ∷ es) n w = (
-    λ k. ap (λ (b : Bool). cond b (Some e.1) (stored_at es n)) (turned n e.0 k),
-    every-both (λ later. e.0 < later.0) (λ z. nat_eq n z.0 ≡ true → stored_at es n ≡ Some z.1) (λ z. nat_eq n z.0 ≡ true → stored_at (e ∷ es) n ≡ Some z.1)
-    (λ z less f k.
-    let same = eqb-true n z.0 k in
-    let apart : nat_eq e.0 n ≡ false = ne_eqb e.0 n (omega (arith, less, same)) in
-    ap (λ (b : Bool). cond b (Some e.1) (stored_at es n)) apart ∙ f k) es w.0 (known-by-number es n w.1),
-  )
+  known-by-number (e ∷ es) n w = (here, every-both (λ later. e.0 < later.0) (λ z. nat_eq n z.0 ≡ true → stored_at es n ≡ Some z.1) (λ z. nat_eq n z.0 ≡ true → stored_at (e ∷ es) n ≡ Some z.1) past es w.0 (known-by-number es n w.1))
+    where
+      here : nat_eq n e.0 ≡ true → stored_at (e ∷ es) n ≡ Some e.1
+      here k = ap (λ (b : Bool). cond b (Some e.1) (stored_at es n)) (turned n e.0 k)
+
+      past : (z : ℕ × Constraint X) → e.0 < z.0 → (nat_eq n z.0 ≡ true → stored_at es n ≡ Some z.1) → nat_eq n z.0 ≡ true → stored_at (e ∷ es) n ≡ Some z.1
+      past z less f k =
+          let same = eqb-true n z.0 k in
+          let apart : nat_eq e.0 n ≡ false = ne_eqb e.0 n (omega (arith, less, same)) in
+          ap (λ (b : Bool). cond b (Some e.1) (stored_at es n)) apart ∙ f k
 
   -- keys whose heads have rows are quiet
   pub headed-quiet : (log : List (Event X)) (n : ℕ) (ts : List Term) (vs : List ℕ) → AreHeadedBy ts vs → AllHead log n vs → IsQuiet (λ v. has_row (rows log) v n) ts
