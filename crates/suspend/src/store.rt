@@ -9,7 +9,7 @@ use crate::constraint::{Constraint, Fired};
 use crate::iter::StoreIter;
 use crate::looking::is_awake;
 use crate::note::Note;
-use crate::pairs::has_pair;
+use crate::pairs::Pairs;
 use dance_list::{DanceList, Node};
 use level_terms::{Change, Heap};
 use std::alloc::{AllocError, AllocFailed, Global};
@@ -28,7 +28,7 @@ pub struct Store<C: Drop> {
     alloc: Global,
     notes: Vec<Note>,
     constraints: Vec<Constraint<C>>,
-    pairs: Vec<Fired>,
+    pairs: Pairs,
     places: Vec<Node>,
     list: DanceList<u64>,
 }
@@ -41,9 +41,9 @@ impl<C: Drop> Model for Store<C> {
 
     ghost Value = { List (Event C) };
 
-    ghost view = { λ s. told (reverse s.notes.items) (reverse s.constraints.items) (reverse s.pairs.items) };
+    ghost view = { λ s. told (reverse s.notes.items) (reverse s.constraints.items) (reverse s.pairs) };
 
-    ghost invariant = { λ s. IsKept (reverse s.notes.items) (reverse s.constraints.items) (reverse s.pairs.items) (reverse s.places.items) (linked s.list) (unlinked s.list) × (nodes s.list ≡ s.places.items) };
+    ghost invariant = { λ s. IsKept (reverse s.notes.items) (reverse s.constraints.items) (reverse s.pairs) (reverse s.places.items) (linked s.list) (unlinked s.list) × (nodes s.list ≡ s.places.items) };
 }
 
 impl<C: Drop> Store<C> {
@@ -55,7 +55,7 @@ impl<C: Drop> Store<C> {
             alloc,
             notes: Vec::new(alloc),
             constraints: Vec::new(alloc),
-            pairs: Vec::new(alloc),
+            pairs: Pairs::new(alloc),
             places: Vec::new(alloc),
             list: DanceList::new(alloc),
         }
@@ -106,8 +106,7 @@ impl<C: Drop> Store<C> {
         ensures err { OnErr result (self.new ≡ self.old) }
     {
         self.notes.reserve(1)?;
-        self.pairs.reserve(1)?;
-        self.pairs.push_reserved(pair);
+        self.pairs.push(pair)?;
         self.notes.push_reserved(Note::Fires);
         Ok(())
     }
@@ -116,7 +115,7 @@ impl<C: Drop> Store<C> {
     pub fn fired(&self, pair: &Fired) -> bool
         ensures { result ≡ has_fired (firings self.now) pair.now }
     {
-        has_pair(self.pairs.as_slice(), pair)
+        self.pairs.has(pair)
     }
 
     /// The constraint with a number.
@@ -215,7 +214,7 @@ impl<C: Drop> Store<C> {
                 let node = self.places[(id - 1) as usize];
                 self.list.relink(node);
             }
-            Some(Note::Fires) => drop_last(&mut self.pairs),
+            Some(Note::Fires) => self.pairs.drop_last(),
             None => {}
         }
     }

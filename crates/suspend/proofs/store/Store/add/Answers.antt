@@ -16,10 +16,10 @@ invariant_of-self-in-Ok-push_back g c =
     let size = ap length c.in-Ok.ensures.constraints in
     let number : c.len.result + 1 ≡ suc (length c.self.inside.constraints.items) = omega (arith, c.len.ensures, size, c.make_room.new.constraints.ok) in (
       kept-along (reverse (c.self.inside.notes.items ++ Joins ∷ [])) (reverse c.push_reserved-in-Ok-push_back-2.new.self.items)
-          (reverse (c.self.inside.constraints.items ++ c.args.c ∷ [])) (reverse c.push_reserved-in-Ok-push_back.new.self.items) (reverse c.self.inside.pairs.items) (reverse c.self.inside.pairs.items)
+          (reverse (c.self.inside.constraints.items ++ c.args.c ∷ [])) (reverse c.push_reserved-in-Ok-push_back.new.self.items) (reverse c.self.inside.pairs) (reverse c.self.inside.pairs)
           (reverse (c.self.inside.places.items ++ c.in-Ok-push_back.node ∷ [])) (reverse c.push_reserved.new.self.items) (linked c.self.inside.list ++ (c.in-Ok-push_back.node, c.len.result + 1) ∷ []) (linked c.push_back.new.self)
           (unlinked c.self.inside.list) (unlinked c.push_back.new.self) (ap reverse (sym notes)) (ap reverse (sym cs)) refl (ap reverse (sym ns)) (sym ok.1) (sym c.in-Ok-push_back.ensures.stack)
-          (joined-kept c.self.inside.notes.items c.self.inside.constraints.items (reverse c.self.inside.pairs.items) c.self.inside.places.items (linked c.self.inside.list) (unlinked c.self.inside.list) c.args.c c.in-Ok-push_back.node (c.len.result + 1) c.self.invariant.0 number),
+          (joined-kept c.self.inside.notes.items c.self.inside.constraints.items (reverse c.self.inside.pairs) c.self.inside.places.items (linked c.self.inside.list) (unlinked c.self.inside.list) c.args.c c.in-Ok-push_back.node (c.len.result + 1) c.self.invariant.0 number),
       ok.0 ∙ ap (λ xs. xs ++ c.in-Ok-push_back.node ∷ []) c.self.invariant.1 ∙ sym ns,
     )
 
@@ -29,7 +29,7 @@ returns-in-Ok-push_back-clause-ok g c =
     let cs = c.push_reserved-in-Ok-push_back.ensures.items ∙ ap (λ xs. xs ++ c.args.c ∷ []) c.in-Ok.ensures.constraints in
     let size = ap length c.in-Ok.ensures.constraints in
     let number : c.len.result + 1 ≡ suc (length c.self.inside.constraints.items) = omega (arith, c.len.ensures, size, c.make_room.new.constraints.ok) in
-    let log = ap₂ (λ a b. told (reverse a) (reverse b) (reverse c.self.inside.pairs.items)) notes cs ∙ joined-told c.self.inside.notes.items c.self.inside.constraints.items (reverse c.self.inside.pairs.items) c.args.c in (
-      number ∙ sym (ap added log ∙ joined-number c.self.inside.notes.items c.self.inside.constraints.items (reverse c.self.inside.pairs.items) c.self.inside.places.items (linked c.self.inside.list) (unlinked c.self.inside.list) c.args.c c.self.invariant.0),
+    let log = ap₂ (λ a b. told (reverse a) (reverse b) (reverse c.self.inside.pairs)) notes cs ∙ joined-told c.self.inside.notes.items c.self.inside.constraints.items (reverse c.self.inside.pairs) c.args.c in (
+      number ∙ sym (ap added log ∙ joined-number c.self.inside.notes.items c.self.inside.constraints.items (reverse c.self.inside.pairs) c.self.inside.places.items (linked c.self.inside.list) (unlinked c.self.inside.list) c.args.c c.self.invariant.0),
       log ∙ ap (λ xs. joins c.args.c ∷ xs) c.self.view_is,
     )

@@ -7,5 +7,5 @@ use Rattle.suspend.proofs.store.Store.fired.Goals as goal
 
 pub returns : goal.returns
 returns g c =
-    let all = kept-firings (reverse c.self.inside.notes.items) (reverse c.self.inside.constraints.items) (reverse c.self.inside.pairs.items) (reverse c.self.inside.places.items) (linked c.self.inside.list) (unlinked c.self.inside.list) c.self.invariant.0 in
-    c.has_pair.ensures ∙ ap (λ fs. has_fired fs c.args.pair.now) (c.as_slice.ensures.value ∙ sym (reverse-reverse c.self.inside.pairs.items) ∙ sym all ∙ ap firings c.self.view_is)
+    let all = kept-firings (reverse c.self.inside.notes.items) (reverse c.self.inside.constraints.items) (reverse c.self.inside.pairs) (reverse c.self.inside.places.items) (linked c.self.inside.list) (unlinked c.self.inside.list) c.self.invariant.0 in
+    c.has.ensures ∙ ap (λ fs. has_fired fs c.args.pair.now) (sym (reverse-reverse c.self.inside.pairs) ∙ sym all ∙ ap firings c.self.view_is)

@@ -7,4 +7,4 @@ use Rattle.suspend.proofs.store.Store.follow.Goals as goal
 pub returns-clause-keyed : goal.returns-clause-keyed
 returns-clause-keyed g c =
     follows c.args.self.now c.args.heap.now c.args.entries.now
-    (subst (λ log. Every (λ e. has (waiting log) e.0 ≡ true) (stored log)) c.self.view_is (all-wait (reverse c.self.inside.notes.items) (reverse c.self.inside.constraints.items) (reverse c.self.inside.pairs.items)))
+    (subst (λ log. Every (λ e. has (waiting log) e.0 ≡ true) (stored log)) c.self.view_is (all-wait (reverse c.self.inside.notes.items) (reverse c.self.inside.constraints.items) (reverse c.self.inside.pairs)))

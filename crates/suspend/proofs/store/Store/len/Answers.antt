@@ -7,6 +7,6 @@ use Rattle.suspend.proofs.store.Store.len.Goals as goal
 
 pub returns : goal.returns
 returns g c =
-    let log = told (reverse c.self.inside.notes.items) (reverse c.self.inside.constraints.items) (reverse c.self.inside.pairs.items) in
-    let alike = kept-alike (reverse c.self.inside.notes.items) (reverse c.self.inside.constraints.items) (reverse c.self.inside.pairs.items) (reverse c.self.inside.places.items) (linked c.self.inside.list) (unlinked c.self.inside.list) c.self.invariant.0 in
+    let log = told (reverse c.self.inside.notes.items) (reverse c.self.inside.constraints.items) (reverse c.self.inside.pairs) in
+    let alike = kept-alike (reverse c.self.inside.notes.items) (reverse c.self.inside.constraints.items) (reverse c.self.inside.pairs) (reverse c.self.inside.places.items) (linked c.self.inside.list) (unlinked c.self.inside.list) c.self.invariant.0 in
     c.len.ensures ∙ alike-length (reverse c.self.inside.constraints.items) (reverse c.self.inside.places.items) (linked c.self.inside.list) (stored log) alike ∙ ap (λ z. length (stored z)) c.self.view_is

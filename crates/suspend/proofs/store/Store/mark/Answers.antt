@@ -5,6 +5,6 @@ use Rattle.suspend.proofs.store.Store.mark.Goals as goal
 
 pub returns : goal.returns
 returns g c =
-    let size = told-length c.self.inside.notes.items (reverse c.self.inside.constraints.items) (reverse c.self.inside.pairs.items) (reverse c.self.inside.places.items) (linked c.self.inside.list) (unlinked c.self.inside.list) c.self.invariant.0 in
+    let size = told-length c.self.inside.notes.items (reverse c.self.inside.constraints.items) (reverse c.self.inside.pairs) (reverse c.self.inside.places.items) (linked c.self.inside.list) (unlinked c.self.inside.list) c.self.invariant.0 in
     let seen = ap length c.self.view_is in
     omega (arith, c.len.ensures, size, seen, c.self.inside.notes.ok)
