@@ -1,0 +1,4 @@
+pub mod Declared
+pub mod Reserved
+pub mod TypeRules
+pub mod inside

@@ -1,0 +1,4 @@
+pub mod Inference
+pub mod Loops
+pub mod Ordering
+pub mod Sorting

@@ -1,0 +1,8 @@
+pub mod Demands
+pub mod FreeNodes
+pub mod Nodes
+pub mod Read
+pub mod Schemes
+pub mod Trees
+pub mod Typing
+pub mod inside
