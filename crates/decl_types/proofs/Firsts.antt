@@ -1,14 +1,10 @@
 -- The first of breaches: the first of a list in two parts is the earlier of their first ones.
 use Rattle.std.proofs.Common.{◌≡◌, ◌∙◌, ℕ, ◌+◌, ◌<◌, ◌≤◌, min, Bool, true, false, List, [], ◌∷◌, ◌++◌, Option, Some, None, length, get_or, take, map, filter, sym, ap, refl, arith}
 use Rattle.std.specs.Prelude.{if◌then◌else◌, nat_lt}
-use Rattle.std.specs.List.{flat_map, zip}
-use Rattle.std.proofs.lemmas.List.{take_more, take_all, get_or_default}
-use Rattle.std.proofs.lemmas.List.Folds.{flat_map-map}
-use Rattle.std.proofs.lemmas.Slice.Zip.{length-zip, get_or-zip}
+use Rattle.std.specs.List.{flat_map}
+use Rattle.std.proofs.lemmas.List.{take_more}
 use Rattle.std.proofs.lemmas.Grind.{flat_map-append}
 use Rattle.std.proofs.lemmas.Bool.Decides.{nat_tests}
-use Rattle.lp_parser.specs.declared.ast.Place.{Place}
-
 use Rattle.lp_resolve.specs.Places.{is_less_or}
 use Rattle.decl_types.specs.declared.breach.Breach.{Breach}
 use Rattle.decl_types.specs.TypeRules.{is_before, earlier, first_of, number_of}
@@ -64,3 +60,14 @@ first_of-take f xs i d h =
 pub next-first : {A : Type 0} (f : A → List Breach) (xs : List A) (i : ℕ) (x : A) (found next later : Option Breach) → i < length xs → x ≡ get_or xs i x
     → found ≡ first_of (flat_map f (take i xs)) → next ≡ first_of (f x) → later ≡ earlier found next → later ≡ first_of (flat_map f (take (i + 1) xs))
 next-first f xs i x found next later h e before here both =
+    both ∙ ap (λ o. earlier o next) before ∙ ap (earlier (first_of (flat_map f (take i xs)))) (here ∙ ap (λ y. first_of (f y)) e) ∙ sym (first_of-take f xs i x h)
+
+-- the first of three
+pub first-three : (a b c : List Breach) (fa fb fc two three : Option Breach) → fa ≡ first_of a → fb ≡ first_of b → fc ≡ first_of c → two ≡ earlier fa fb → three ≡ earlier two fc → three ≡ first_of (a ++ b ++ c)
+first-three a b c fa fb fc two three ea eb ec e2 e3 =
+    e3 ∙ ap (λ o. earlier o fc) (e2 ∙ ap (λ o. earlier o fb) ea ∙ ap (earlier (first_of a)) eb) ∙ ap (earlier (earlier (first_of a) (first_of b))) ec
+    ∙ ap (λ o. earlier o (first_of c)) (sym (first_of-append a b)) ∙ sym (first_of-append (a ++ b) c)
+
+-- and of two
+pub first-two : (a b : List Breach) (fa fb two : Option Breach) → fa ≡ first_of a → fb ≡ first_of b → two ≡ earlier fa fb → two ≡ first_of (a ++ b)
+first-two a b fa fb two ea eb e2 = e2 ∙ ap (λ o. earlier o fb) ea ∙ ap (earlier (first_of a)) eb ∙ sym (first_of-append a b)

@@ -30,13 +30,13 @@ abbrev pub name_breaches : TypeRule → (earlier : List DeclaredName) → List D
 name_breaches rule earlier [] = []
 name_breaches rule earlier (d ∷ names) = breaches_if (d.refused || is_among earlier d.name) rule d.name.place ++ name_breaches rule (earlier ++ d ∷ []) names
 
--- the words of types, none of which a kind may have for its name
-abbrev pub is_word : (table : List (List ℕ)) → PlacedName → Bool
-is_word table n = list_any (bytes_eq (slice_index_or table n.sym.0 [])) (codes "int" ∷ codes "string" ∷ codes "prop" ∷ codes "list" ∷ [])
+-- a text that is a word of types, which no kind may have for its name
+abbrev pub is_word : List ℕ → Bool
+is_word text = bytes_eq text (codes "int") || (bytes_eq text (codes "string") || (bytes_eq text (codes "prop") || bytes_eq text (codes "list")))
 
 -- a name that a kind declares
 abbrev pub kind_name : (table : List (List ℕ)) → PlacedName → DeclaredName
-kind_name table n = record { name = n; refused = is_word table n }
+kind_name table n = record { name = n; refused = is_word (slice_index_or table n.sym.0 []) }
 
 -- the names that kinds declare, in the order of the text
 abbrev pub kind_names : (table : List (List ℕ)) → DeclTree → List DeclaredName

@@ -2,7 +2,6 @@
 ghost use Rattle.std.specs.Prelude.{◌≡◌};
 ghost use Rattle.decl_types.specs.TypeRules.{number_of, is_before, earlier, first_of, breaches_if};
 
-
 use decl_trees::TypeRule;
 use lp_parser::Place;
 

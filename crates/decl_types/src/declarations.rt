@@ -3,7 +3,6 @@ ghost use Rattle.std.specs.Prelude.{◌≡◌, IfOk};
 ghost use Rattle.decl_types.specs.TypeRules.{first_breach};
 
 use crate::breach::{Breach, earlier};
-
 use crate::kinds::{first_misused, kinds_of};
 use crate::names::{first_refused, kind_names, typed_names};
 use decl_trees::{DeclTree, TypeRule};
@@ -25,8 +24,5 @@ pub fn first_breach(
     let kinds = kinds_of(alloc, decls)?;
     let in_kinds = first_refused(alloc, TypeRule::Y1, kind_names.as_slice())?;
     let in_types = first_refused(alloc, TypeRule::Y2, typed_names.as_slice())?;
-    Ok(earlier(
-        earlier(in_kinds, in_types),
-        first_misused(&kinds, decls),
-    ))
+    Ok(earlier(earlier(in_kinds, in_types), first_misused(&kinds, decls)))
 }

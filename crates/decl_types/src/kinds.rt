@@ -1,16 +1,30 @@
 //! Declared kinds, and the words of types.
-ghost use Rattle.std.specs.Prelude.{◌≡◌, ◌++◌, ℕ, List, [], length, map, flat_map, nat_eq, IfOk, OnOk};
+ghost use Rattle.std.specs.Prelude.{◌≡◌, ◌++◌, ◌∷◌, ℕ, List, [], length, map, flat_map, nat_eq, IfOk, OnOk};
 ghost use Rattle.indexmap.specs.IndexMap.{get};
 ghost use Rattle.decl_types.specs.TypeRules.{Kind, kind_of, kinds_in, arrows_of, arguments_of, is_misused, word_breaches, breaches_of_words, first_of};
 ghost use Rattle.decl_types.specs.inside.Kinds.{AreKinds};
 
 use crate::breach::{Breach, breach_if, earlier};
-
 use decl_trees::{DeclTree, PlacedName, TypeRule, TypeTree, TypeWord};
 use indexmap::IndexMap;
 use std::alloc::{AllocError, Global};
 
-// Adds these names as kinds with so many arrows, each where it is new.
+// Adds a name as a kind with so many arrows, where it is new.
+fn put_kind(
+    kinds: &mut IndexMap<usize, usize>,
+    name: PlacedName,
+    arity: usize,
+) -> Result<(), AllocError>
+    ensures { OnOk result ((before : List Kind) → AreKinds kinds.old before → AreKinds kinds.new (before ++ kind_of arity name ∷ [])) }
+{
+    if kinds.get(&name.sym.0).is_some() {
+        return Ok(());
+    }
+    kinds.insert(name.sym.0, arity)?;
+    Ok(())
+}
+
+// Adds these names as kinds with so many arrows.
 fn put_kinds(
     kinds: &mut IndexMap<usize, usize>,
     names: &[PlacedName],
@@ -19,9 +33,7 @@ fn put_kinds(
     ensures { OnOk result ((before : List Kind) → AreKinds kinds.old before → AreKinds kinds.new (before ++ map (kind_of arity) names.now)) }
 {
     for name in names {
-        if kinds.get(&name.sym.0).is_none() {
-            kinds.insert(name.sym.0, arity)?;
-        }
+        put_kind(kinds, *name, arity)?;
     }
     Ok(())
 }
@@ -38,10 +50,7 @@ fn put_kinds_of(kinds: &mut IndexMap<usize, usize>, decl: &DeclTree) -> Result<(
 }
 
 /// The kinds that these declarations declare, by the numbers of their names, with the number of arrows of each.
-pub fn kinds_of(
-    alloc: Global,
-    decls: &[DeclTree],
-) -> Result<IndexMap<usize, usize>, AllocError>
+pub fn kinds_of(alloc: Global, decls: &[DeclTree]) -> Result<IndexMap<usize, usize>, AllocError>
     ensures { IfOk result (λ kinds. AreKinds kinds (flat_map kinds_in decls.now)) }
 {
     let mut kinds = IndexMap::new(alloc);

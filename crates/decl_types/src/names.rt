@@ -1,10 +1,9 @@
 //! Names that declarations declare.
-ghost use Rattle.std.specs.Prelude.{◌≡◌, ◌++◌, [], ◌∷◌, map, flat_map, slice_index_or, IfOk, OnOk};
+ghost use Rattle.std.specs.Prelude.{◌≡◌, ◌||◌, ◌++◌, [], ◌∷◌, not, map, flat_map, slice_index_or, IfOk, OnOk};
 ghost use Rattle.lp_resolve.specs.StaticRules.{is_reserved};
 ghost use Rattle.decl_types.specs.TypeRules.{is_word, kind_names, kind_name, typed_names, type_name, name_breaches, first_of};
 
 use crate::breach::{Breach, breach_if, earlier};
-
 use decl_trees::{DeclTree, PlacedName, TypeRule};
 use indexmap::IndexSet;
 use lp_resolve::Symbols;
@@ -32,12 +31,20 @@ fn text_of(symbols: &Symbols, symbol: Sym) -> &[u8]
     }
 }
 
-// Whether a name is a word of types.
-fn is_word(symbols: &Symbols, name: PlacedName) -> bool
-    ensures { result ≡ is_word symbols.now name }
+// Whether a text is a word of types.
+fn is_word(text: &[u8]) -> bool
+    ensures { result ≡ is_word text.now }
 {
-    let text = text_of(symbols, name.sym);
-    text == b"int" || text == b"string" || text == b"prop" || text == b"list"
+    if text == b"int".as_slice() {
+        return true;
+    }
+    if text == b"string".as_slice() {
+        return true;
+    }
+    if text == b"prop".as_slice() {
+        return true;
+    }
+    text == b"list".as_slice()
 }
 
 // Puts names of kinds last.
@@ -51,7 +58,7 @@ fn push_kinds(
     for name in declared {
         names.push(DeclaredName {
             name: *name,
-            refused: is_word(symbols, *name),
+            refused: is_word(text_of(symbols, name.sym)),
         })?;
     }
     Ok(())
@@ -134,6 +141,13 @@ pub fn typed_names(alloc: Global, decls: &[DeclTree]) -> Result<Vec<DeclaredName
     Ok(names)
 }
 
+// Whether a name may not be declared, or isn't new.
+fn is_broken(refused: bool, is_new: bool) -> bool
+    ensures { result ≡ (refused || not is_new) }
+{
+    refused || !is_new
+}
+
 /// The first of these names at which a rule is broken: one that may not be declared, or that is declared before.
 pub fn first_refused(
     alloc: Global,
@@ -146,7 +160,7 @@ pub fn first_refused(
     let mut found = None;
     for declared in names {
         let is_new = seen.insert(declared.name.sym.0)?;
-        let broken = declared.refused || !is_new;
+        let broken = is_broken(declared.refused, is_new);
         found = earlier(found, breach_if(broken, rule, declared.name.place));
     }
     Ok(found)

@@ -110,7 +110,12 @@ fn suspension(alloc: Global) -> Result<Scheme, AllocError>
     ensures { IfOk result (λ scheme. scheme ≡ suspension) }
 {
     let keys = list(alloc)?;
-    binary(alloc, Scheme::Leaf(Word::Prop), keys, Scheme::Leaf(Word::Prop))
+    binary(
+        alloc,
+        Scheme::Leaf(Word::Prop),
+        keys,
+        Scheme::Leaf(Word::Prop),
+    )
 }
 
 // `A -> list A -> list A`

@@ -72,11 +72,13 @@ pub some-untyped : (declared : ℕ → Option Polytype) (count : ℕ) (items : L
     → IsStuck declared nodes ns entries place → IsUntypedAt declared count items place
 some-untyped declared count items entries ns nodes place f o s = record {
   typed =
-      let v = s.typed.0 in
-      (map v nodes, record {
-        each = length-map nodes v ∙ f.each;
-        typed = typed-before items entries (HasItemTyping declared (map v nodes)) s.k place o s.within s.at s.typed.2;
-      });
+      let v = s.typed.0 in (
+        map v nodes,
+        record {
+          each = length-map nodes v ∙ f.each;
+          typed = typed-before items entries (HasItemTyping declared (map v nodes)) s.k place o s.within s.at s.typed.2;
+        },
+      );
   untyped = λ typing.
       let p = start count nodes ns f typing.0 typing.1.each in
       s.untyped p.0 p.1

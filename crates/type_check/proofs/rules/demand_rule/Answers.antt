@@ -81,7 +81,7 @@ returns-then-not-branch-3 c =
     let g3 = c.demand_pairs.new.graph in
     let one : Meets g g1 (At s (Heads s r.kept)) = at-list g g1 s (Heads s) c.as_slice.result.now r.kept _ true c.as_slice.ensures c.if-not-branch.false c.in_ok-demand_heads.ensures in
     let two : Meets g g2 (At s (Two s r)) = both g g1 g2 s (Heads s r.kept) (Heads s r.removed) true c.requires one
-        (at-list g1 g2 s (Heads s) c.as_slice-2.result.now r.removed _ true c.as_slice-2.ensures c.if-not-branch-2.false c.in_ok-demand_heads-2.ensures) in
+    (at-list g1 g2 s (Heads s) c.as_slice-2.result.now r.removed _ true c.as_slice-2.ensures c.if-not-branch-2.false c.in_ok-demand_heads-2.ensures) in
     demands-part g g3 (At s (Three s r)) (Whole s r) (λ v e. ((e.kept, e.removed), e.pairs))
     (both g g2 g3 s (Two s r) (Pairs s r.pairs) false c.requires two
     (at-list g2 g3 s (Pairs s) c.as_slice-3.result.now r.pairs _ false c.as_slice-3.ensures c.if-not-branch-3.true c.in_ok-demand_pairs.ensures))
@@ -97,9 +97,9 @@ returns-then-not-branch-4 c =
     let g4 = c.demand_tests.new.graph in
     let one : Meets g g1 (At s (Heads s r.kept)) = at-list g g1 s (Heads s) c.as_slice.result.now r.kept _ true c.as_slice.ensures c.if-not-branch.false c.in_ok-demand_heads.ensures in
     let two : Meets g g2 (At s (Two s r)) = both g g1 g2 s (Heads s r.kept) (Heads s r.removed) true c.requires one
-        (at-list g1 g2 s (Heads s) c.as_slice-2.result.now r.removed _ true c.as_slice-2.ensures c.if-not-branch-2.false c.in_ok-demand_heads-2.ensures) in
+    (at-list g1 g2 s (Heads s) c.as_slice-2.result.now r.removed _ true c.as_slice-2.ensures c.if-not-branch-2.false c.in_ok-demand_heads-2.ensures) in
     let three : Meets g g3 (At s (Three s r)) = both g g2 g3 s (Two s r) (Pairs s r.pairs) true c.requires two
-        (at-list g2 g3 s (Pairs s) c.as_slice-3.result.now r.pairs _ true c.as_slice-3.ensures c.if-not-branch-3.false c.in_ok-demand_pairs.ensures) in
+    (at-list g2 g3 s (Pairs s) c.as_slice-3.result.now r.pairs _ true c.as_slice-3.ensures c.if-not-branch-3.false c.in_ok-demand_pairs.ensures) in
     demands-part g g4 (At s (Four s r)) (Whole s r) (λ v e. (((e.kept, e.removed), e.pairs), e.tests))
     (both g g3 g4 s (Three s r) (Tests s r.tests) false c.requires three
     (at-list g3 g4 s (Tests s) c.as_slice-4.result.now r.tests _ false c.as_slice-4.ensures c.if-not-branch-4.true c.in_ok-demand_tests.ensures))
@@ -116,11 +116,11 @@ returns c =
     let g5 = c.demand_body.new.graph in
     let one : Meets g g1 (At s (Heads s r.kept)) = at-list g g1 s (Heads s) c.as_slice.result.now r.kept _ true c.as_slice.ensures c.if-not-branch.false c.in_ok-demand_heads.ensures in
     let two : Meets g g2 (At s (Two s r)) = both g g1 g2 s (Heads s r.kept) (Heads s r.removed) true c.requires one
-        (at-list g1 g2 s (Heads s) c.as_slice-2.result.now r.removed _ true c.as_slice-2.ensures c.if-not-branch-2.false c.in_ok-demand_heads-2.ensures) in
+    (at-list g1 g2 s (Heads s) c.as_slice-2.result.now r.removed _ true c.as_slice-2.ensures c.if-not-branch-2.false c.in_ok-demand_heads-2.ensures) in
     let three : Meets g g3 (At s (Three s r)) = both g g2 g3 s (Two s r) (Pairs s r.pairs) true c.requires two
-        (at-list g2 g3 s (Pairs s) c.as_slice-3.result.now r.pairs _ true c.as_slice-3.ensures c.if-not-branch-3.false c.in_ok-demand_pairs.ensures) in
+    (at-list g2 g3 s (Pairs s) c.as_slice-3.result.now r.pairs _ true c.as_slice-3.ensures c.if-not-branch-3.false c.in_ok-demand_pairs.ensures) in
     let four : Meets g g4 (At s (Four s r)) = both g g3 g4 s (Three s r) (Tests s r.tests) true c.requires three
-        (at-list g3 g4 s (Tests s) c.as_slice-4.result.now r.tests _ true c.as_slice-4.ensures c.if-not-branch-4.false c.in_ok-demand_tests.ensures) in
+    (at-list g3 g4 s (Tests s) c.as_slice-4.result.now r.tests _ true c.as_slice-4.ensures c.if-not-branch-4.false c.in_ok-demand_tests.ensures) in
     if-ok c.demand_body.result (Demands g4 g5 (At s (Body s r.body))) (Demands g g5 (Whole s r))
     (λ b d. same-demand g g5 (At s (Five s r)) (Whole s r) b
     (λ v e. record { kept = e.0.0.0.0; removed = e.0.0.0.1; pairs = e.0.0.1; tests = e.0.1; body = e.1 })
