@@ -4,4 +4,5 @@ pub mod Kinds
 pub mod Lists
 pub mod Names
 pub mod Preds
+pub mod Schemes
 pub mod Tables

@@ -40,22 +40,26 @@ fn reserved_table(alloc: Global, count: usize) -> Result<Vec<Option<Polytype>>, 
 }
 
 // Gives a constant its type, where it has none and is in the table.
-fn declare(table: &mut [Option<Polytype>], name: Sym, polytype: Polytype)
-    ensures { Gains table.old table.new (record { name = name.0; type = polytype } ∷ []) }
+fn declare(table: &mut Vec<Option<Polytype>>, name: Sym, polytype: Polytype)
+    ensures { Gains table.old.items table.new.items (record { name = name.0; type = polytype } ∷ []) }
 {
-    if name.0 < table.len() && table[name.0].is_none() {
-        table[name.0] = Some(polytype);
+    if name.0 >= table.len() {
+        return;
     }
+    if table[name.0].is_some() {
+        return;
+    }
+    table[name.0] = Some(polytype);
 }
 
 // Gives names that a `type` declares their type.
 fn declare_all(
     alloc: Global,
-    table: &mut [Option<Polytype>],
+    table: &mut Vec<Option<Polytype>>,
     names: &[PlacedName],
     ty: &TypeTree,
 ) -> Result<(), AllocError>
-    ensures { OnOk result (Gains table.old table.new (map (typed_so ty.now) names.now)) }
+    ensures { OnOk result (Gains table.old.items table.new.items (map (typed_so ty.now) names.now)) }
 {
     for name in names {
         let variables = variables_of(ty)?;
@@ -68,10 +72,10 @@ fn declare_all(
 // Gives the names of a declaration their types.
 fn declare_in(
     alloc: Global,
-    table: &mut [Option<Polytype>],
+    table: &mut Vec<Option<Polytype>>,
     decl: &DeclTree,
 ) -> Result<(), AllocError>
-    ensures { OnOk result (Gains table.old table.new (declared_in decl.now)) }
+    ensures { OnOk result (Gains table.old.items table.new.items (declared_in decl.now)) }
 {
     match decl {
         DeclTree::KindTree { names: _, arity: _ } => Ok(()),
@@ -85,6 +89,20 @@ fn declare_in(
     }
 }
 
+// Gives the names of declarations their types.
+fn declare_each(
+    alloc: Global,
+    table: &mut Vec<Option<Polytype>>,
+    decls: &[DeclTree],
+) -> Result<(), AllocError>
+    ensures { OnOk result (Gains table.old.items table.new.items (flat_map declared_in decls.now)) }
+{
+    for decl in decls {
+        declare_in(alloc, table, decl)?;
+    }
+    Ok(())
+}
+
 /// The types of the first so many constants, where declarations give them types or they are reserved.
 ///
 /// Errors: want of memory. Costs a look at the type of a `type` for each name that it declares.
@@ -96,8 +114,6 @@ pub fn declared_table(
     ensures { IfOk result (λ table. (c : ℕ) → declared_of table.items c ≡ declared_types count decls.now c) }
 {
     let mut table = reserved_table(alloc, count)?;
-    for decl in decls {
-        declare_in(alloc, table.as_mut_slice(), decl)?;
-    }
+    declare_each(alloc, &mut table, decls)?;
     Ok(table)
 }
