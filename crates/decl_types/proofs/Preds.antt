@@ -1,8 +1,7 @@
 -- The type of a predicate, from its last argument on.
-use Rattle.std.proofs.Common.{◌≡◌, ◌∙◌, ℕ, ◌+◌, ◌<◌, List, length, get_or, drop, ap, sym}
+use Rattle.std.proofs.Common.{◌≡◌, ℕ, ◌+◌, ◌<◌, List, length, get_or, drop, ap}
 use Rattle.std.proofs.lemmas.List.{drop_more}
 use Rattle.decl_trees.specs.declared.trees.TypeTree.{TypeTree}
-use Rattle.type_terms.specs.declared.scheme.Scheme.{Scheme}
 use Rattle.decl_types.specs.Reserved.{to}
 use Rattle.decl_types.specs.Declared.{scheme_of, pred_scheme}
 

@@ -1,5 +1,5 @@
 -- The types with variables that declarations give to constants.
-use Rattle.std.specs.Prelude.{ℕ, suc, max, nat_eq, nat_lt, if◌then◌else◌, List, [], ◌∷◌, ◌++◌, map, flat_map, fold, Option, Some, None, option_map, option_and_then}
+use Rattle.std.specs.Prelude.{ℕ, suc, max, nat_eq, nat_lt, if◌then◌else◌, List, [], ◌∷◌, map, flat_map, fold, Option, Some, None, option_map, option_and_then}
 use Rattle.std.specs.Option.{option_or}
 use Rattle.decl_trees.specs.declared.trees.PlacedName.{PlacedName}
 use Rattle.decl_trees.specs.declared.trees.TypeWord.{TypeWord}

@@ -1,12 +1,11 @@
 -- Clauses and rules are typed one after another, and what all of them come to.
-use Rattle.std.proofs.Common.{◌≡◌, ◌∙◌, ℕ, ◌+◌, ◌<◌, List, [], ◌∷◌, length, map, take, get_or, All, Bool, false, ap, sym, subst, refl, arith}
+use Rattle.std.proofs.Common.{◌≡◌, ◌∙◌, ℕ, ◌<◌, List, [], length, map, Option, take, get_or, All, false, ap, sym, subst, arith}
 use Rattle.std.proofs.lemmas.List.{length-map, get_or_default}
 use Rattle.lp_parser.specs.declared.ast.Place.{Place}
 use Rattle.type_graph.specs.declared.node.Node.{Node}
 use Rattle.type_graph.specs.declared.node.Word.TheVariants as words
 use Rattle.type_graph.specs.Types.{Ty, word}
 use Rattle.type_graph.specs.Graph.{Solves, node_at, IsMostGeneral}
-use Rattle.type_graph.specs.Solved.{Below}
 use Rattle.type_terms.specs.declared.scheme.Polytype.{Polytype}
 use Rattle.type_terms.specs.FreeNodes.{Frees}
 use Rattle.type_terms.specs.Demands.{Meets, Demands}
@@ -14,7 +13,7 @@ use Rattle.type_terms.specs.Read.{AreNodes}
 use Rattle.type_terms.proofs.CallerLemmas.{DependsBelow, constants-depend, types-below}
 use Rattle.type_check.specs.declared.places.Entry.{Entry}
 use Rattle.type_check.specs.declared.infer.Typing.{Typing}
-use Rattle.type_check.specs.Typings.{Item, HasItemTyping, IsTyping, HasTyping, IsUntypedAt, before, upto}
+use Rattle.type_check.specs.Typings.{Item, HasItemTyping, IsUntypedAt, upto}
 use Rattle.type_check.specs.Inferred.{IsPrincipal}
 use Rattle.type_check.specs.inside.Order.{item_of, IsInOrder}
 use Rattle.type_check.specs.inside.Folded.{AreTyped, IsStuck}

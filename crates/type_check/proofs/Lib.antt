@@ -1,3 +1,4 @@
+pub mod Entries
 pub mod Inference
 pub mod Loops
 pub mod Ordering

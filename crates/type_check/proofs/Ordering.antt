@@ -8,7 +8,7 @@ use Rattle.lp_parser.specs.declared.ast.Place.{Place}
 use Rattle.lp_resolve.specs.Places.{is_before}
 use Rattle.type_check.specs.declared.places.Entry.{Entry}
 use Rattle.type_check.specs.Typings.{Item, place_of, before, upto}
-use Rattle.type_check.specs.inside.Order.{item_of, IsPlaced, IsInOrder}
+use Rattle.type_check.specs.inside.Order.{item_of, IsInOrder}
 
 -- what holds of those that pass a test
 pub all-passing : {A : Type 0} (p : A → Bool) (Q : A → Type 0) (xs : List A) → All (λ x. p x ≡ true → Q x) xs → All Q (filter p xs)

@@ -1,25 +1,15 @@
 -- Entries, as they are made and as they are sorted.
-use Rattle.std.proofs.Common.{◌≡◌, ◌∙◌, ℕ, ◌+◌, ◌<◌, ◌≤◌, Bool, true, false, ◌||◌, ◌&&◌, List, [], ◌∷◌, ◌++◌, length, map, take, get_or, All, IsPermutation, nat_eq, nat_lt, cond, ap, sym, subst, refl}
-use Rattle.std.proofs.lemmas.List.{map-append, take_more}
-use Rattle.std.proofs.lemmas.List.Elements.{All-push}
+use Rattle.std.proofs.Common.{◌≡◌, ◌∙◌, ℕ, Bool, true, false, ◌||◌, ◌&&◌, List, map, get_or, IsPermutation, nat_eq, nat_lt, cond, sym, subst, refl}
 use Rattle.std.proofs.lemmas.List.Sorted.{All-permutation, IsPermutation-map, sorted_far, ranks_by}
 use Rattle.std.specs.Cmp.{IsTotalOrder, nat_cmp_total, then_total, on_total}
 use Rattle.std.specs.Ordering.{is_lt, nat_cmp, ordering_then}
 use Rattle.std.specs.List.Sorted.{IsSortedByKey}
 use Rattle.std.specs.declared.cmp.Ordering.{Ordering}
 use Rattle.std.specs.declared.cmp.Ordering.TheVariants.{Less, Equal, Greater}
-use Rattle.lp_parser.specs.declared.ast.Place.{Place}
-use Rattle.lp_resolve.specs.Places.{is_before, is_less_or}
+use Rattle.lp_resolve.specs.Places.{is_before}
 use Rattle.type_check.specs.declared.places.Entry.{Entry}
-use Rattle.type_check.specs.Typings.{Item, place_of}
+use Rattle.type_check.specs.Typings.{Item}
 use Rattle.type_check.specs.inside.Order.{item_of, IsPlaced, AreEntries, IsInOrder}
-
--- one more entry
-pub entries-more : (items : List Item) (entries : List Entry) (x : Item) (e : Entry) → AreEntries items entries → item_of e ≡ x → e.place ≡ place_of x → AreEntries (items ++ x ∷ []) (entries ++ e ∷ [])
-entries-more items entries x e a is at = record {
-  items_are = map-append item_of entries (e ∷ []) ∙ ap (λ xs. xs ++ item_of e ∷ []) a.items_are ∙ ap (λ y. items ++ y ∷ []) is;
-  placed = All-push IsPlaced entries e a.placed (at ∙ ap place_of (sym is));
-}
 
 -- the key of an entry, and the order of keys
 abbrev pub key_of : Entry → ℕ × ℕ

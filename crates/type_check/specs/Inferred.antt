@@ -1,6 +1,5 @@
 -- Principal types, and why a program has no typing.
-use Rattle.std.specs.Prelude.{◌≡◌, ℕ, List, length, map, Option, ◌×◌}
-use Rattle.lp_resolve.specs.declared.program.Program.{Program}
+use Rattle.std.specs.Prelude.{◌≡◌, ℕ, List, length, map, Option}
 use Rattle.type_graph.specs.Types.{Ty}
 use Rattle.type_graph.specs.Graph.{Solves, node_at, IsMostGeneral}
 use Rattle.type_terms.specs.declared.scheme.Polytype.{Polytype}
@@ -9,7 +8,7 @@ use Rattle.type_check.specs.declared.error.TypeError.{TypeError}
 use Rattle.type_check.specs.declared.error.TypeError.TheVariants.{Broken, Memory}
 use Rattle.decl_trees.specs.declared.rule.TypeRule.TheVariants.{Y1, Y2, Y3, Y4}
 use Rattle.type_check.specs.declared.infer.Typing.{Typing}
-use Rattle.type_check.specs.Typings.{Item, items_of, IsTyping, IsUntypedAt}
+use Rattle.type_check.specs.Typings.{Item, IsTyping, IsUntypedAt}
 
 -- Principal types, as nodes: the types that typings give to the constants are those that the solutions of the graph give to
 -- their nodes, and whatever types its free nodes have, there is exactly one solution.

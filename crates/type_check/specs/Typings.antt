@@ -1,5 +1,5 @@
 -- Typings of clauses and rules.
-use Rattle.std.specs.Prelude.{◌≡◌, ◌<◌, ℕ, Bool, nat_eq, ◌||◌, not, if◌then◌else◌, List, ◌∷◌, [], ◌++◌, map, length, filter, All, Option, IfSome}
+use Rattle.std.specs.Prelude.{◌≡◌, ℕ, nat_eq, ◌||◌, not, if◌then◌else◌, List, [], ◌++◌, map, length, filter, All, Option, IfSome}
 use Rattle.std.specs.Option.{option_map_or}
 use Rattle.lp_parser.specs.declared.ast.Place.{Place}
 use Rattle.ref_terms.specs.terms.Term as term

@@ -1,5 +1,5 @@
 //! Typings of clauses.
-ghost use Rattle.std.specs.Prelude.{◌≡◌, ◌×◌, List, IfOk, IfSome, length, map};
+ghost use Rattle.std.specs.Prelude.{◌≡◌, List, IfOk, IfSome, length, map};
 ghost use Rattle.type_graph.specs.Types.{Ty};
 ghost use Rattle.type_terms.specs.Read.{AreKnown, AreNodes, declared_of};
 ghost use Rattle.type_terms.specs.Demands.{Demands};

@@ -1,5 +1,5 @@
 -- Demands are met one after another.
-use Rattle.std.proofs.Common.{◌≡◌, ℕ, zero, suc, ◌<◌, List, [], ◌∷◌, length, map, Bool, true, false, Option, Some, None, slice_get, refl, sym, ap₂, ◌∙◌, subst, arith}
+use Rattle.std.proofs.Common.{◌≡◌, ℕ, zero, suc, ◌<◌, List, [], ◌∷◌, length, map, Bool, true, false, Some, None, slice_get, refl, sym, ap₂, ◌∙◌, subst, arith}
 use Rattle.type_graph.specs.declared.node.Node.{Node}
 use Rattle.type_graph.specs.declared.node.Node.TheVariants.{Leaf, Apply}
 use Rattle.type_graph.specs.declared.node.Word.TheVariants as words
@@ -7,11 +7,11 @@ use Rattle.type_graph.specs.Types.{Ty, word, applied}
 use Rattle.type_graph.specs.Graph.{Solves, node_at}
 use Rattle.type_graph.specs.Solved.{Below, Adds, Unified}
 use Rattle.type_terms.specs.Typing.{IsAt}
-use Rattle.type_terms.specs.Nodes.{Reads, Answers}
+use Rattle.type_terms.specs.Nodes.{Reads}
 use Rattle.type_terms.specs.Read.{AreNodes}
-use Rattle.type_terms.specs.Demands.{Meets, Demands, IsContext, IsPair}
+use Rattle.type_terms.specs.Demands.{Demands, IsPair}
 use Rattle.type_terms.proofs.Composing.{below-trans}
-use Rattle.type_terms.proofs.Scopes.{at-there, at-only, at-none}
+use Rattle.type_terms.proofs.Scopes.{at-there, at-only}
 
 -- a demand may be said otherwise
 pub same-demand : (ns ns' : List Node) (C D : (ℕ → Ty) → Type 0) (b : Bool) → ((v : ℕ → Ty) → C v → D v) → ((v : ℕ → Ty) → D v → C v) → Demands ns ns' C b → Demands ns ns' D b

@@ -7,7 +7,7 @@ use Rattle.type_graph.specs.Graph.{Solves, node_at}
 use Rattle.type_terms.specs.declared.scheme.Polytype.{Polytype}
 use Rattle.type_terms.specs.Demands.{Meets}
 use Rattle.type_check.specs.declared.places.Entry.{Entry}
-use Rattle.type_check.specs.Typings.{Item, HasItemTyping}
+use Rattle.type_check.specs.Typings.{HasItemTyping}
 use Rattle.type_check.specs.inside.Order.{item_of}
 
 module _ (declared : ℕ → Option Polytype) (constants : List ℕ) where

@@ -1,12 +1,8 @@
 -- Types over nodes.
-use Rattle.std.specs.Prelude.{◌≡◌, ℕ, ◌≤◌, List, length, map}
-use Rattle.type_graph.specs.declared.node.Node.{Node}
+use Rattle.std.specs.Prelude.{◌≡◌, ℕ, List, map}
 use Rattle.type_graph.specs.Types.{Ty}
-use Rattle.type_graph.specs.Graph.{Solves, node_at}
-use Rattle.type_graph.specs.Solved.{Below}
 use Rattle.type_terms.specs.declared.scheme.Scheme.{Scheme}
 use Rattle.type_terms.specs.Schemes.{instance, type_at}
-use Rattle.type_terms.specs.Read.{AreNodes}
 
 -- the type whose variables have the types of these nodes
 abbrev pub IsOver : List ℕ → Scheme → (ℕ → Ty) → Ty → Type 0

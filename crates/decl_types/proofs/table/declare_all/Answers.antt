@@ -1,6 +1,6 @@
-use Rattle.std.proofs.Common.{◌∷◌, [], ap, ap₂, ℕ, subst}
+use Rattle.std.proofs.Common.{◌∷◌, [], ap₂, ℕ, subst}
 use Rattle.type_terms.specs.declared.scheme.Scheme.{Scheme}
-use Rattle.decl_types.specs.Declared.{Declared, typed_so}
+use Rattle.decl_types.specs.Declared.{Declared}
 use Rattle.decl_types.specs.inside.Tables.{Gains}
 use Rattle.decl_types.proofs.Tables.{gains-names}
 use Rattle.decl_types.proofs.table.declare_all.Goals as goal

@@ -1,5 +1,4 @@
-use Rattle.std.proofs.Common.{◌≡◌, ℕ, List, map, Option, Some, None, IfSome, IfOk, true, false, sym, subst}
-use Rattle.type_graph.specs.Types.{Ty}
+use Rattle.std.proofs.Common.{IfSome, true, false, subst}
 use Rattle.type_terms.specs.Read.{declared_of}
 use Rattle.type_terms.specs.Demands.{Meets, Demands}
 use Rattle.type_terms.proofs.CallerLemmas.{known-depends, demands-both, demands-part, if-ok}

@@ -1,7 +1,6 @@
-use Rattle.std.proofs.Common.{◌≡◌, ℕ, List, map, Option, Some, None, IfSome, IfOk, true, false, sym, subst}
-use Rattle.type_graph.specs.Types.{Ty}
+use Rattle.std.proofs.Common.{ℕ, List, map, subst}
 use Rattle.type_terms.specs.Read.{declared_of}
-use Rattle.type_terms.specs.Demands.{Meets, Demands}
+use Rattle.type_terms.specs.Demands.{Demands}
 use Rattle.type_terms.proofs.CallerLemmas.{variables-demanded, variables-known, if-ok}
 use Rattle.type_check.specs.Typings.{IsClauseTyped, HasClauseTyping}
 use Rattle.type_check.proofs.clauses.type_clause.Goals as goal

@@ -1,4 +1,4 @@
-use Rattle.std.proofs.Common.{◌≡◌, map, take, true, false, subst}
+use Rattle.std.proofs.Common.{map, true, false, subst}
 use Rattle.type_terms.specs.Read.{declared_of}
 use Rattle.type_terms.specs.Demands.{Demands}
 use Rattle.type_check.specs.Typings.{HasItemTyping}

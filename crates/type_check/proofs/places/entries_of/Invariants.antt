@@ -1,4 +1,4 @@
-use Rattle.std.proofs.Common.{◌≡◌, ◌++◌, [], map, take}
+use Rattle.std.proofs.Common.{◌++◌, map, take}
 use Rattle.type_check.specs.Typings.{of_clause, of_rule}
 use Rattle.type_check.specs.inside.Order.{AreEntries}
 use Rattle.type_check.proofs.places.entries_of.Given as goal

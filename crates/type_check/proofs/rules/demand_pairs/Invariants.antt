@@ -1,5 +1,4 @@
-use Rattle.std.proofs.Common.{ℕ, map, take, All}
-use Rattle.type_graph.specs.Types.{Ty}
+use Rattle.std.proofs.Common.{map, take, All}
 use Rattle.type_terms.specs.Demands.{Meets}
 use Rattle.type_check.specs.Typings.{IsPairTyped}
 use Rattle.type_check.proofs.rules.demand_pairs.Given as goal

@@ -1,4 +1,4 @@
-use Rattle.std.proofs.Common.{◌≡◌, All, Bool, length, ℕ, List, map, Option, Some, None, IfSome, IfOk, true, false, sym, subst}
+use Rattle.std.proofs.Common.{◌≡◌, All, Bool, ℕ, List, Option, IfSome, true, false, subst}
 use Rattle.type_graph.specs.Types.{Ty}
 use Rattle.type_terms.specs.Read.{declared_of}
 use Rattle.type_terms.specs.Demands.{Meets, Demands}

@@ -1,5 +1,4 @@
-use Rattle.std.proofs.Common.{◌≡◌, ℕ, List, map, take, true, false, subst}
-use Rattle.type_graph.specs.Types.{Ty}
+use Rattle.std.proofs.Common.{map, true, false, subst}
 use Rattle.type_terms.specs.Read.{declared_of}
 use Rattle.type_terms.specs.Demands.{Demands}
 use Rattle.type_terms.proofs.CallerLemmas.{known-depends}

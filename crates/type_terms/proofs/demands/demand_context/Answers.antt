@@ -1,4 +1,4 @@
-use Rattle.std.proofs.Common.{◌≡◌, ◌<◌, ◌∙◌, length, Some, None, slice_get, sym, arith}
+use Rattle.std.proofs.Common.{◌≡◌, ◌∙◌, length, Some, None, slice_get, sym, arith}
 use Rattle.type_graph.specs.declared.node.Word.TheVariants as words
 use Rattle.type_graph.specs.Types.{Ty, word, applied}
 use Rattle.type_graph.specs.Solved.{Unified}

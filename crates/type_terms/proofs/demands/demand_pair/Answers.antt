@@ -1,4 +1,4 @@
-use Rattle.std.proofs.Common.{◌≡◌, ◌∙◌, Some, None, slice_get, sym}
+use Rattle.std.proofs.Common.{◌≡◌, ◌∙◌, None, slice_get, sym}
 use Rattle.type_graph.specs.Solved.{Unified}
 use Rattle.type_terms.specs.Demands.{Demands, IsPair}
 use Rattle.type_terms.proofs.Composing.{if-ok}

@@ -1,6 +1,5 @@
-use Rattle.std.proofs.Common.{IfOk, subst, refl, [], List, ℕ}
-use Rattle.ref_terms.specs.terms.Term as term
-use Rattle.type_terms.specs.Nodes.{Answers, Reads}
+use Rattle.std.proofs.Common.{subst, [], List, ℕ}
+use Rattle.type_terms.specs.Nodes.{Answers}
 use Rattle.type_terms.specs.Read.{declared_of, with_binders, HasConstantAt, HasSpine, HasApplied}
 use Rattle.type_terms.proofs.Composing.{if-ok}
 use Rattle.type_terms.proofs.Readings.{applied-to, applied-none}
