@@ -1,5 +1,5 @@
 -- The types with variables that declarations give to constants.
-use Rattle.std.specs.Prelude.{ℕ, suc, max, nat_eq, nat_lt, if◌then◌else◌, List, [], ◌∷◌, map, flat_map, fold, Option, Some, None, option_map, option_and_then}
+use Rattle.std.specs.Prelude.{ℕ, ◌+◌, max, nat_eq, nat_lt, if◌then◌else◌, List, [], ◌∷◌, map, flat_map, fold, Option, Some, None, option_map, option_and_then}
 use Rattle.std.specs.Option.{option_or}
 use Rattle.decl_trees.specs.declared.trees.PlacedName.{PlacedName}
 use Rattle.decl_trees.specs.declared.trees.TypeWord.{TypeWord}
@@ -39,7 +39,7 @@ pred_scheme (a ∷ args) = to (scheme_of a) (pred_scheme args)
 
 -- more than the number of the variable that a word is
 abbrev pub word_variables : TypeWord → ℕ
-word_variables (Var i) = suc i
+word_variables (Var i) = i + 1
 word_variables Int = 0
 word_variables Str = 0
 word_variables Prop = 0
