@@ -5,4 +5,3 @@ pub mod Examples
 pub mod Instancing
 pub mod Readings
 pub mod Scopes
-pub mod TreeForms

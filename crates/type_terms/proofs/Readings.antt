@@ -10,7 +10,7 @@ use Rattle.type_graph.specs.Types.{Ty}
 use Rattle.type_graph.specs.Graph.{Solves, node_at}
 use Rattle.type_graph.specs.Solved.{Below, Adds}
 use Rattle.type_terms.specs.Typing.{IsAt, HasConstant, HasType}
-use Rattle.type_terms.specs.Trees.{as_term, with_arguments}
+use Rattle.lp_resolve.specs.Trees.{as_term, with_arguments}
 use Rattle.type_terms.specs.declared.scheme.Polytype.{Polytype}
 use Rattle.type_terms.specs.Schemes.{IsInstanceOf}
 use Rattle.type_terms.specs.Nodes.{Reads, Answers, Arrows, Applies}

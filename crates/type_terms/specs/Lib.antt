@@ -3,6 +3,5 @@ pub mod FreeNodes
 pub mod Nodes
 pub mod Read
 pub mod Schemes
-pub mod Trees
 pub mod Typing
 pub mod inside

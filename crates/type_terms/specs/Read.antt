@@ -8,7 +8,7 @@ use Rattle.type_graph.specs.declared.node.Node.{Node}
 use Rattle.type_graph.specs.Types.{Ty}
 use Rattle.type_terms.specs.declared.scheme.Polytype.{Polytype}
 use Rattle.type_terms.specs.declared.scope.Scope as code
-use Rattle.type_terms.specs.Trees.{as_term, head_term, with_arguments}
+use Rattle.lp_resolve.specs.Trees.{as_term, head_term, with_arguments}
 use Rattle.type_terms.specs.Typing.{arrow, Types, HasConstant, HasType}
 
 -- these are nodes of the graph

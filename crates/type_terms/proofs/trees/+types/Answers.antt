@@ -3,10 +3,10 @@ use Rattle.std.proofs.lemmas.List.{take_more}
 use Rattle.ref_terms.specs.declared.tree.Tree.{Tree}
 use Rattle.ref_terms.specs.terms.Term as term
 use Rattle.ref_terms.specs.terms.Term.{Term}
-use Rattle.type_terms.specs.Trees.{as_term, head_term}
+use Rattle.lp_resolve.specs.Trees.{as_term, head_term}
 use Rattle.type_terms.specs.Nodes.{Answers, Reads, Applies}
 use Rattle.type_terms.specs.Read.{declared_of, Has, HasTree, HasFront, HasSpine, scope}
-use Rattle.type_terms.proofs.TreeForms.{term-lam, term-ap, term-con, term-bound, term-variable}
+use Rattle.lp_resolve.proofs.TreeForms.{term-lam, term-ap, term-con, term-bound, term-variable}
 use Rattle.type_terms.proofs.Composing.{if-ok}
 use Rattle.type_terms.proofs.Readings.{IsScope, abstracted, abstracted-none, headed, headed-none, listed, spine-next, spine-untyped, spine-whole, bound-at, bound-past}
 use Rattle.type_terms.proofs.Scopes.{all-reverse}
