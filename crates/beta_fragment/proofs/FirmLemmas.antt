@@ -29,7 +29,8 @@ use Rattle.level_terms.proofs.ValidLemmas.{nodes_valid, valid_deeper}
 use Rattle.beta_fragment.specs.declared.glance.Readiness.{Readiness}
 use Rattle.beta_fragment.specs.declared.glance.Readiness.TheVariants.{Level as some_level, Ready, Unready, Unknown}
 use Rattle.level_terms.specs.Values.{value_of, IsLamOf, IsVarOf}
-use Rattle.level_terms.proofs.ReachLemmas.{lam-misses, var-misses}
+use Rattle.level_terms.specs.Reached.{tree, tree_size}
+use Rattle.level_terms.proofs.ReachLemmas.{tree-at, lam-misses, var-misses}
 use Rattle.level_terms.proofs.MakeLemmas.{and_both, below_true}
 use Rattle.beta_fragment.specs.HeadForm.{IsAbstraction}
 use Rattle.beta_fragment.specs.Firm.{IsPlain, IsReadyNode, IsOpenNode, IsFirmHead, IsFirm, IsFirmNode, IsPlainNode, IsAbstractionNode, EndsOtherwise, IsOther, IsReadiness}
@@ -282,6 +283,14 @@ reads-level g t l s e env p = nodes_read g t (Level l) env s p e
 -- a variable that has a value reads as it
 pub reads-value : (g : Graph) (t value : ℕ) (v : VarId) → IsSound g → node_at g.nodes t ≡ Some (Var v) → value_in g.assigned v.index ≡ Some value → (env : ℕ → Term) → ArePlaces env → read g t env ≡ read g value env
 reads-value g t value v s e f env p = nodes_read g t (Var v) env s p e ∙ ap (λ o. variable_reads g v.index o env) f
+
+pub value-firm : (g : Graph) (t value : ℕ) (v : VarId) → IsSound g → node_at g.nodes t ≡ Some (Var v) → value_in g.assigned v.index ≡ Some value → IsFirmNode g value → IsFirmNode g t
+value-firm g t value v s e f w = λ env p. subst IsFirm (sym (reads-value g t value v s e f env p)) (w env p)
+
+-- an abstraction's body has a smaller tree
+pub body-smaller : (g : Graph) (t d : ℕ) (b : TermId) → IsSound g → node_at g.nodes t ≡ Some (Lam d b) → tree_size (tree g b.index) < tree_size (tree g t)
+unfolding tree
+body-smaller g t d b s e = let same : tree_size (tree g t) ≡ 1 + tree_size (tree g b.index) = ap tree_size (tree-at g t (Lam d b) s e) in omega (arith, same)
 
 pub var-unready : (g : Graph) (t : ℕ) (v : VarId) → IsSound g → node_at g.nodes t ≡ Some (Var v) → value_in g.assigned v.index ≡ None → (env : ℕ → Term) → ArePlaces env → ready (read g t env) ≡ false
 var-unready g t v s e f = by-node (λ x. ready x ≡ false) g t (Var v) s e (λ env p.

@@ -24,7 +24,7 @@ use Rattle.ref_terms.specs.terms.Eta.{lam}
 use Rattle.ref_terms.specs.unification.Spine.{apply_all}
 use Rattle.beta_fragment.specs.Names.{AllBelow}
 use Rattle.beta_fragment.specs.HeadForm.{AllValidAt}
-use Rattle.level_terms.specs.Values.{Value, value_of, IsLamOf, IsAppOf, IsLevelOf}
+use Rattle.level_terms.specs.Values.{Value, IsLamOf, IsAppOf, IsLevelOf}
 use Rattle.beta_fragment.specs.Moves.{Moves, IsMove, Plan, naming, Does, moved, moved_level}
 use Rattle.beta_fragment.proofs.EnterLemmas.{body-valid}
 use Rattle.level_terms.proofs.MakeLemmas.{and_both, below_true}

@@ -1,12 +1,12 @@
 -- Variables that have no value.
-use Rattle.std.proofs.Common.{◌≡◌, ℕ, zero, suc, ◌<◌, ◌≤◌, ◌+◌, ◌-◌, ◌*◌, min, ◌++◌, List, [], ◌∷◌, length, map, cond, nat_eq, nat_lt, Bool, true, false, Some, None, slice_index, refl, sym, ap, ap₂, ◌∙◌, arith, subst, ne_eqb, eq-eqb}
+use Rattle.std.proofs.Common.{◌≡◌, ℕ, zero, suc, ◌<◌, ◌≤◌, ◌+◌, ◌-◌, ◌*◌, min, ◌++◌, List, [], ◌∷◌, length, map, cond, nat_eq, Bool, true, false, Some, None, slice_index, refl, sym, ap, ap₂, ◌∙◌, arith, subst, ne_eqb, eq-eqb}
 use Rattle.std.specs.List.{list_all}
 use mathlib.Core.Path.{fun_ext}
 use Rattle.level_terms.specs.declared.node.Node.{Node}
 use Rattle.level_terms.specs.declared.node.Node.TheVariants.{Var}
 use Rattle.level_terms.specs.declared.node.TermId.{TermId}
 use Rattle.level_terms.specs.declared.node.VarId.{VarId}
-use Rattle.level_terms.specs.Graph.{Graph, Assigned, node_at, value_in}
+use Rattle.level_terms.specs.Graph.{Graph, node_at, value_in}
 use Rattle.level_terms.specs.Laws.{IsPlace, ArePlaces}
 use Rattle.level_terms.specs.Sound.{IsSound, IsMade, AllMade}
 use Rattle.level_terms.specs.Growth.{Grows}
@@ -31,9 +31,9 @@ use Rattle.ref_terms.specs.unification.Spine.{apply_all}
 use Rattle.ref_terms.specs.lemmas.FillLemmas.{built-apply}
 use Rattle.ref_terms.specs.lemmas.ComposeLemmas.{ren-apply, lam-apply}
 use Rattle.beta_fragment.specs.Names.{AllBelow}
-use Rattle.level_terms.specs.Values.{Value, value_of, IsLamOf, IsAppOf, IsLevelOf, IsVarOf}
+use Rattle.level_terms.specs.Values.{Value, IsLamOf, IsAppOf, IsLevelOf, IsVarOf}
 use Rattle.beta_fragment.specs.Moves.{Moves, AreLevelsOf, IsMovedVar, naming, moved, moved_level}
-use Rattle.level_terms.proofs.MakeLemmas.{newest, and_both, below_true}
+use Rattle.level_terms.proofs.MakeLemmas.{and_both}
 use Rattle.beta_fragment.proofs.MoveLemmas.{below_from, moved-places, moved-below, node-before, assigned-before, value-moves}
 use Rattle.level_terms.proofs.ReadLemmas.{valid-below}
 

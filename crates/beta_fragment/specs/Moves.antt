@@ -1,15 +1,11 @@
 -- Levels that are moved: those below a base are names, and those from it on are bound in the term.
-use Rattle.std.specs.Prelude.{◌≡◌, ℕ, ◌+◌, ◌-◌, ◌<◌, ◌≤◌, cond, nat_lt, nat_eq, List, length, slice_index, Bool, true, false, map, [], ◌∷◌, suc}
-use Rattle.std.specs.List.{list_all}
-use Rattle.level_terms.specs.declared.node.TermId.{TermId}
+use Rattle.std.specs.Prelude.{◌≡◌, ℕ, ◌+◌, ◌-◌, ◌<◌, ◌≤◌, cond, nat_lt, nat_eq, List, length, slice_index, true, false, [], ◌∷◌, suc}
 use Rattle.level_terms.specs.Graph.{Graph}
 use Rattle.level_terms.specs.Laws.{ArePlaces}
-use Rattle.level_terms.specs.Valid.{valid}
-use Rattle.level_terms.specs.Reading.{read, enter, levels}
+use Rattle.level_terms.specs.Reading.{read, levels}
 use Rattle.ref_terms.specs.terms.Term.{Term, Head, At, Var, Name}
 use Rattle.ref_terms.specs.terms.Apply.{fill}
 use Rattle.ref_terms.specs.terms.Occurs.{is_name, has_name}
-use Rattle.ref_terms.specs.terms.Eta.{lam}
 use Rattle.ref_terms.specs.unification.Spine.{apply_all}
 use Rattle.level_terms.specs.Values.{Value, IsLevelOf}
 use Rattle.beta_fragment.specs.Names.{AllBelow}

@@ -63,20 +63,26 @@ fn is_bare_var(heap: &Heap, t: TermId) -> bool
 }
 
 /// Whether the node is certain to have a constant, an integer, a string or a variable at its head,
-/// below the abstractions at its front.
+/// below the abstractions at its front and through the values of variables.
 pub(crate) fn is_firm(heap: &Heap, t: TermId) -> bool
     requires { t.index < length heap.now.nodes }
     ensures { IsTrue result → IsFirmNode heap.now t.index }
 {
     heap.is_sound();
     let mut node = t;
-    while let Node::Lam { body, .. } = heap.view(node) {
-        node = *body;
+    loop {
+        match heap.view(node) {
+            Node::Lam { body, .. } => node = *body,
+            Node::Var(v) => match heap.value(*v) {
+                Some(value) => node = value,
+                None => return true,
+            },
+            _ => return is_firm_end(heap, node),
+        }
     }
-    is_firm_end(heap, node)
 }
 
-/// The same of a node that is no abstraction.
+/// The same of a node that is neither an abstraction nor a variable.
 fn is_firm_end(heap: &Heap, t: TermId) -> bool
     requires { t.index < length heap.now.nodes }
     ensures { IsTrue result → IsFirmNode heap.now t.index }
@@ -86,7 +92,6 @@ fn is_firm_end(heap: &Heap, t: TermId) -> bool
         Node::Con(_) => true,
         Node::Int(_) => true,
         Node::Str(_) => true,
-        Node::Var(v) => is_free(heap, *v),
         Node::App { head, .. } => is_firm_head(heap, *head),
         _ => false,
     }

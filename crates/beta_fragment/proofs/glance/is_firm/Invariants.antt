@@ -1,4 +1,5 @@
 use Rattle.std.proofs.Common.{◌<◌, length}
+use Rattle.level_terms.specs.Reached.{tree, tree_size}
 use Rattle.beta_fragment.specs.Firm.{IsFirmNode}
 use Rattle.beta_fragment.proofs.glance.is_firm.Given as goal
 
@@ -9,4 +10,4 @@ invariant-loop-body l = record {
 }
 
 abbrev pub decreases-loop-body : goal.decreases-loop-body
-decreases-loop-body l = l.node.index
+decreases-loop-body l = tree_size (tree l.heap l.node.index)

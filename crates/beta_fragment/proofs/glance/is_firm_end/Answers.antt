@@ -1,12 +1,8 @@
 use Rattle.std.proofs.Common.{◌∙◌, ap, Some}
 use Rattle.beta_fragment.specs.Firm.{IsFirm}
 use Rattle.level_terms.proofs.MakeLemmas.{parts-there}
-use Rattle.beta_fragment.proofs.VarLemmas.{var-known}
-use Rattle.beta_fragment.proofs.FirmLemmas.{by-node, var-firm, app-firm}
+use Rattle.beta_fragment.proofs.FirmLemmas.{by-node, app-firm}
 use Rattle.beta_fragment.proofs.glance.is_firm_end.Goals as goal
-
-pub is_free-requires : goal.is_free-requires
-is_free-requires c = var-known c.args.heap.now c.args.t.index c.in-Var.v c.is_sound.ensures (c.view.ensures ∙ ap Some c.in-Var.is)
 
 pub returns-in-Con : goal.returns-in-Con
 returns-in-Con c = λ _. by-node IsFirm c.args.heap.now c.args.t.index _ c.is_sound.ensures (c.view.ensures ∙ ap Some c.in-Con.is) (λ env p. tt)
@@ -19,9 +15,6 @@ returns-in-Str c = λ _. by-node IsFirm c.args.heap.now c.args.t.index _ c.is_so
 
 pub is_firm_head-requires : goal.is_firm_head-requires
 is_firm_head-requires c = (parts-there c.args.heap.now c.args.t.index _ c.is_sound.ensures (c.view.ensures ∙ ap Some c.in-App.is)).0
-
-pub returns-in-Var : goal.returns-in-Var
-returns-in-Var c = λ q. var-firm c.args.heap.now c.args.t.index c.in-Var.v c.is_sound.ensures (c.view.ensures ∙ ap Some c.in-Var.is) (c.is_free.ensures q)
 
 pub returns-in-App : goal.returns-in-App
 returns-in-App c = λ q. app-firm c.args.heap.now c.args.t.index c.in-App.head _ c.is_sound.ensures (c.view.ensures ∙ ap Some c.in-App.is) (c.is_firm_head.ensures.plain q) (c.is_firm_head.ensures.firm q)
