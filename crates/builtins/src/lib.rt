@@ -16,3 +16,4 @@ pub use applying::apply_whole;
 pub use calling::{call_builtin, law_outcomes_move};
 pub use events::Events;
 pub use goal_form::Builtin;
+pub use questions::{is_less, is_name, is_same, is_variable};

@@ -19,8 +19,8 @@ use beta_fragment::{RigidHead, UnifyStop, Whnf, same_term, whnf};
 use level_terms::{Heap, TermId};
 use std::alloc::{AllocError, Global};
 
-/// Whether both terms are equal.
-pub(crate) fn is_same(
+/// Whether both terms are equal. Makes no variable. Answers `AllocError` on want of memory alone.
+pub fn is_same(
     alloc: Global,
     heap: &mut Heap,
     s: TermId,
@@ -73,8 +73,9 @@ fn is_level_alone(head: RigidHead, count: usize) -> bool
     }
 }
 
-/// Whether a variable heads the term. Costs a look at its head.
-pub(crate) fn is_variable(
+/// Whether a variable heads the term. Makes no variable. Answers `AllocError` on want of memory alone.
+/// Costs a look at its head.
+pub fn is_variable(
     alloc: Global,
     heap: &mut Heap,
     t: TermId,
@@ -89,13 +90,9 @@ pub(crate) fn is_variable(
     Ok(is_flexible(form))
 }
 
-/// Whether the term is a name without arguments. Costs a look at its head.
-pub(crate) fn is_name(
-    alloc: Global,
-    heap: &mut Heap,
-    t: TermId,
-    depth: usize,
-) -> Result<bool, AllocError>
+/// Whether the term is a name without arguments. Makes no variable. Answers `AllocError` on want of
+/// memory alone. Costs a look at its head.
+pub fn is_name(alloc: Global, heap: &mut Heap, t: TermId, depth: usize) -> Result<bool, AllocError>
     requires { IsValid heap.old t.index depth }
     ensures name { IfOk result (λ b. b ≡ is_bare_name (read heap.old t.index names)) }
     ensures variables { heap.new.depths ≡ heap.old.depths }
@@ -120,8 +117,9 @@ fn integer(alloc: Global, heap: &mut Heap, t: TermId, depth: usize) -> Result<i6
     }
 }
 
-/// Whether the first integer is less than the second. The first is looked at first.
-pub(crate) fn is_less(
+/// Whether the first integer is less than the second. The first is looked at first; what is no integer
+/// is a fault. Makes no variable. `UnifyStop::Memory` is want of memory alone.
+pub fn is_less(
     alloc: Global,
     heap: &mut Heap,
     a: TermId,

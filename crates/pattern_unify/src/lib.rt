@@ -24,3 +24,4 @@ mod turning;
 mod validity;
 
 pub use solving::{unify, unify_from};
+pub use spine::pattern_names;

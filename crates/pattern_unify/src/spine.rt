@@ -13,8 +13,9 @@ use beta_fragment::{RigidHead, Whnf, whnf};
 use level_terms::{Heap, TermId};
 use std::alloc::{AllocError, Global};
 
-/// The names that the arguments are, where they are distinct names without arguments.
-pub(crate) fn pattern_names(
+/// The names that the arguments are, where they are distinct names without arguments. Makes no
+/// variable. Answers `AllocError` on want of memory alone.
+pub fn pattern_names(
     alloc: Global,
     heap: &mut Heap,
     args: &[TermId],
