@@ -1,9 +1,8 @@
 -- Looking at the keys of stored constraints, and knowing that all of them are to be looked at.
-use Rattle.std.proofs.Common.{◌≡◌, ℕ, zero, suc, ◌+◌, ◌<◌, inl, Bool, true, false, ◌||◌, not, nat_eq, List, [], ◌∷◌, filter, drop, length, refl, sym, ap, ◌∙◌, subst, Some, if◌then◌else◌, arith}
+use Rattle.std.proofs.Common.{◌≡◌, ℕ, zero, suc, ◌+◌, ◌<◌, ◌≤◌, Bool, true, false, ◌||◌, not, List, [], ◌∷◌, ◌++◌, map, take, length, refl, sym, ap, ap₂, ◌∙◌, Option, Some, arith}
 use Rattle.std.specs.Prelude.{slice_index_or}
-use Rattle.std.proofs.lemmas.List.{drop_more}
+use Rattle.std.proofs.lemmas.List.{take_more, take_all, map-append}
 use Rattle.level_terms.specs.declared.node.TermId.{TermId}
-use Rattle.level_terms.specs.declared.node.Change.{Change}
 use Rattle.level_terms.specs.Graph.{Graph}
 use Rattle.level_terms.specs.Reading.{read}
 use Rattle.level_terms.specs.Valid.{IsValid}
@@ -12,16 +11,13 @@ use Rattle.level_terms.specs.Gains.{GainsNodes}
 use Rattle.level_terms.proofs.GainLemmas.{gains-reads}
 use Rattle.beta_fragment.specs.Names.{names}
 use Rattle.ref_terms.specs.search.Value.{is_flex}
+use Rattle.ref_terms.specs.search.Waking.{heading}
 use Rattle.ref_terms.specs.search.Used.{Every}
-use Rattle.suspend.specs.declared.constraint.Constraint.{Constraint}
-use Rattle.suspend.specs.declared.constraint.Fired.{Fired}
-use Rattle.suspend.specs.declared.note.Note.{Note}
-use Rattle.suspend.specs.declared.note.Note.TheVariants.{Joins, Leaves, Fires}
-use Rattle.suspend.specs.Store.{Event, added, rows, waiting, stored, has}
-use Rattle.suspend.specs.Keyed.{awake_in, first_awake, KeysValid, IsKeyed, Keyed, Follows}
-use Rattle.suspend.specs.inside.Kept.{told}
+use Rattle.suspend.specs.Store.{Event, rows, waiting, stored}
+use Rattle.suspend.specs.Keyed.{keys_read, awake_in, KeysValid, IsKeyed, Keyed}
+use Rattle.suspend.specs.inside.Waking.{AreHeadedBy}
 use Rattle.suspend.proofs.KeyLemmas.{keys-valid}
-use Rattle.suspend.proofs.EventLemmas.{every-weaker, every-both, every-last, every-filtered, nat-eq-itself, or-later, not-this, other-number}
+use Rattle.suspend.proofs.EventLemmas.{every-weaker, or-later}
 
 -- one of a list of keys
 pub key-at : (g : Graph) (depth : ℕ) (ks : List TermId) (i : ℕ) (d : TermId) → i < length ks → KeysValid g depth ks → ((slice_index_or ks i d).index < length g.nodes) × IsValid g (slice_index_or ks i d).index depth
@@ -35,22 +31,31 @@ keys-gained g h sound w depth ks u = keys-valid g h [] [] sound w.grows depth ks
 pub key-gained : (g h : Graph) (depth : ℕ) (ks : List TermId) (i : ℕ) (d : TermId) → IsSound g → GainsNodes g h → i < length ks → KeysValid g depth ks → IsValid h (slice_index_or ks i d).index depth
 key-gained g h depth ks i d sound w low u = (key-at h depth ks i d low (keys-gained g h sound w depth ks u)).1
 
--- the next key is flexible, or it isn't
-next-key : (g : Graph) (ks : List TermId) (i : ℕ) (d : TermId) → i < length ks → awake_in g (drop i ks) ≡ (not (is_flex (read g (slice_index_or ks i d).index names)) || awake_in g (drop (i + 1) ks))
-next-key g ks i d low = ap (awake_in g) (drop_more ks i d low)
+key-read : (g h : Graph) (depth : ℕ) (ks : List TermId) (i : ℕ) (d : TermId) → IsSound g → GainsNodes g h → i < length ks → KeysValid g depth ks → read h (slice_index_or ks i d).index names ≡ read g (slice_index_or ks i d).index names
+key-read g h depth ks i d sound w low u = ap (λ f. f names) (gains-reads g h sound w (slice_index_or ks i d).index (key-at g depth ks i d low u).0)
 
-flex-same : (g h : Graph) (depth : ℕ) (ks : List TermId) (i : ℕ) (d : TermId) (flex : Bool) → IsSound g → GainsNodes g h → i < length ks → KeysValid g depth ks → flex ≡ is_flex (read h (slice_index_or ks i d).index names) → is_flex (read g (slice_index_or ks i d).index names) ≡ flex
-flex-same g h depth ks i d flex sound w low u e =
-    let same = gains-reads g h sound w (slice_index_or ks i d).index (key-at g depth ks i d low u).0 in
-    sym (e ∙ ap (λ f. is_flex (f names)) same)
+-- one more key is headed by a variable
+pub heads-more : (g h : Graph) (depth : ℕ) (ks : List TermId) (i : ℕ) (d : TermId) (vs vs' : List ℕ) (v : ℕ) → IsSound g → GainsNodes g h → i < length ks → KeysValid g depth ks
+    → heading (read h (slice_index_or ks i d).index names) ≡ Some v → vs' ≡ vs ++ v ∷ [] → AreHeadedBy (keys_read g (take i ks)) vs → AreHeadedBy (keys_read g (take (i + 1) ks)) vs'
+heads-more g h depth ks i d vs vs' v sound w low u head new before =
+    ap (λ (zs : List TermId). map heading (keys_read g zs)) (take_more ks i d low)
+    ∙ ap (map heading) (map-append (λ (k : TermId). read g k.index names) (take i ks) (slice_index_or ks i d ∷ []))
+    ∙ map-append heading (keys_read g (take i ks)) (read g (slice_index_or ks i d).index names ∷ [])
+    ∙ ap₂ (λ (xs : List (Option ℕ)) (o : Option ℕ). xs ++ o ∷ []) before (ap heading (sym (key-read g h depth ks i d sound w low u)) ∙ head)
+    ∙ sym (map-append (λ (x : ℕ). Some x) vs (v ∷ []))
+    ∙ ap (map (λ (x : ℕ). Some x)) (sym new)
 
-pub key-flexible : (g h : Graph) (depth : ℕ) (ks : List TermId) (i : ℕ) (d : TermId) (flex : Bool) → IsSound g → GainsNodes g h → i < length ks → KeysValid g depth ks → flex ≡ is_flex (read h (slice_index_or ks i d).index names)
-    → flex ≡ true → awake_in g ks ≡ awake_in g (drop i ks) → awake_in g ks ≡ awake_in g (drop (i + 1) ks)
-key-flexible g h depth ks i d flex sound w low u e f before = before ∙ next-key g ks i d low ∙ ap (λ (b : Bool). not b || awake_in g (drop (i + 1) ks)) (flex-same g h depth ks i d flex sound w low u e ∙ f)
+pub heads-all : (g : Graph) (ks : List TermId) (i : ℕ) (vs : List ℕ) → length ks ≤ i → AreHeadedBy (keys_read g (take i ks)) vs → AreHeadedBy (keys_read g ks) vs
+heads-all g ks i vs h w = sym (ap (λ (zs : List TermId). map heading (keys_read g zs)) (take_all i ks h)) ∙ w
 
-pub key-awake : (g h : Graph) (depth : ℕ) (ks : List TermId) (i : ℕ) (d : TermId) (flex : Bool) → IsSound g → GainsNodes g h → i < length ks → KeysValid g depth ks → flex ≡ is_flex (read h (slice_index_or ks i d).index names)
-    → flex ≡ false → awake_in g ks ≡ awake_in g (drop i ks) → true ≡ awake_in g ks
-key-awake g h depth ks i d flex sound w low u e f before = sym (before ∙ next-key g ks i d low ∙ ap (λ (b : Bool). not b || awake_in g (drop (i + 1) ks)) (flex-same g h depth ks i d flex sound w low u e ∙ f))
+-- one key isn't
+any-awake : (g : Graph) (ks : List TermId) (i : ℕ) (d : TermId) → i < length ks → is_flex (read g (slice_index_or ks i d).index names) ≡ false → awake_in g ks ≡ true
+any-awake g [] i d low e = absurd (let z : i < 0 = low in omega (arith, z))
+any-awake g (k ∷ ks) zero d low e = ap (λ (b : Bool). not b || awake_in g ks) e
+any-awake g (k ∷ ks) (suc i) d low e = or-later (not (is_flex (read g k.index names))) (awake_in g ks) (any-awake g ks i d (let z : suc i < suc (length ks) = low in omega (arith, z)) e)
+
+pub heads-none : (g h : Graph) (depth : ℕ) (ks : List TermId) (i : ℕ) (d : TermId) → IsSound g → GainsNodes g h → i < length ks → KeysValid g depth ks → is_flex (read h (slice_index_or ks i d).index names) ≡ false → awake_in g ks ≡ true
+heads-none g h depth ks i d sound w low u e = any-awake g ks i d low (sym (ap is_flex (key-read g h depth ks i d sound w low u)) ∙ e)
 
 -- what is awake stays so where nodes are made
 pub awake-gained : (g h : Graph) → IsSound g → GainsNodes g h → (depth : ℕ) (ks : List TermId) → KeysValid g depth ks → awake_in h ks ≡ awake_in g ks
@@ -62,33 +67,3 @@ awake-gained g h sound w depth (k ∷ ks) u =
 module _ {X : Type 0} where
   pub all-valid : (g : Graph) (log : List (Event X)) → Keyed log g → Every (λ e. KeysValid g e.1.names e.1.keys) (stored log)
   all-valid g log w = every-weaker (λ e. IsKeyed g (rows log) (waiting log) e.0 e.1.names e.1.keys) (λ e. KeysValid g e.1.names e.1.keys) (λ e u. u.0) (stored log) w
-
-  pub goes-past : (g : Graph) (e : ℕ × Constraint X) (es : List (ℕ × Constraint X)) → awake_in g e.1.keys ≡ false → first_awake g (e ∷ es) ≡ first_awake g es
-  goes-past g e es k = ap (λ (b : Bool). if b then Some e.0 else first_awake g es) k
-
-  pub stops-at : (g : Graph) (e : ℕ × Constraint X) (es : List (ℕ × Constraint X)) → awake_in g e.1.keys ≡ true → first_awake g (e ∷ es) ≡ Some e.0
-  stops-at g e es k = ap (λ (b : Bool). if b then Some e.0 else first_awake g es) k
-
-  -- a log of additions, removals and firings alone: all are to be looked at
-  pub all-wait : (notes : List Note) (cs : List (Constraint X)) (fs : List Fired) → Every (λ e. has (waiting (told notes cs fs)) e.0 ≡ true) (stored (told notes cs fs))
-  all-wait [] cs fs = tt
-  all-wait (Joins ∷ older) [] fs = tt
-  all-wait (Joins ∷ older) (c ∷ cs) fs =
-      let log = told older cs fs in
-      every-last (λ e. has (suc (added log) ∷ waiting log) e.0 ≡ true) (stored log) (suc (added log), c)
-      (every-weaker (λ e. has (waiting log) e.0 ≡ true) (λ e. has (suc (added log) ∷ waiting log) e.0 ≡ true) (λ e z. or-later (nat_eq e.0 (suc (added log))) (has (waiting log) e.0) z) (stored log) (all-wait older cs fs))
-      (ap (λ (b : Bool). b || has (waiting log) (suc (added log))) (nat-eq-itself (suc (added log))))
-  all-wait (Leaves n ∷ older) cs fs =
-      let log = told older cs fs in
-      every-filtered (λ e. has (waiting log) e.0 ≡ true) (λ e. has (filter (λ m. not (nat_eq m n)) (waiting log)) e.0 ≡ true) (λ e. not (nat_eq e.0 n)) (λ e apart z. other-number n e.0 (waiting log) (not-this e.0 n apart) z) (stored log) (all-wait older cs fs)
-  all-wait (Fires ∷ older) cs [] = tt
-  all-wait (Fires ∷ older) cs (f ∷ fs) = all-wait older cs fs
-
-  pub follows : (log : List (Event X)) (h : Graph) (entries : List Change) → Every (λ e. has (waiting log) e.0 ≡ true) (stored log) → Follows log log h entries
-  follows log h entries all g sound w known =
-      every-both (λ e. has (waiting log) e.0 ≡ true) (λ e. IsKeyed g (rows log) (waiting log) e.0 e.1.names e.1.keys) (λ e. IsKeyed h (rows log) (waiting log) e.0 e.1.names e.1.keys)
-      (λ e a u. (keys-valid g h [] entries sound w e.1.names e.1.keys u.0, inl a)) (stored log) all known
-
-  pub step-valid : (g : Graph) (rest : List (ℕ × Constraint X)) (n : ℕ) (c : Constraint X) (more : List (ℕ × Constraint X)) → rest ≡ (n, c) ∷ more → Every (λ e. KeysValid g e.1.names e.1.keys) rest
-      → KeysValid g c.names c.keys × Every (λ e. KeysValid g e.1.names e.1.keys) more
-  step-valid g rest n c more e w = subst (Every (λ e. KeysValid g e.1.names e.1.keys)) e w

@@ -110,7 +110,7 @@ growth-gains g h s t w = record {
   trail = ap (drop (length s)) w.trail ∙ drop-all s (changes_of w.new_assigned);
 }
 
-in-later : (m : ℕ) (ns ms : List ℕ) → has ms m ≡ true → has (ns ++ ms) m ≡ true
+pub in-later : (m : ℕ) (ns ms : List ℕ) → has ms m ≡ true → has (ns ++ ms) m ≡ true
 in-later m [] ms e = e
 in-later m (n ∷ ns) ms e = or-later (nat_eq m n) (has (ns ++ ms) m) (in-later m ns ms e)
 

@@ -13,7 +13,7 @@ use Rattle.ref_terms.specs.search.Used.{Every}
 use Rattle.suspend.specs.declared.constraint.Constraint.{Constraint}
 use Rattle.suspend.specs.declared.constraint.Fired.{Fired}
 use Rattle.suspend.specs.declared.note.Note.{Note}
-use Rattle.suspend.specs.declared.note.Note.TheVariants.{Joins, Leaves, Fires}
+use Rattle.suspend.specs.declared.note.Note.TheVariants.{Joins, Leaves, Fires, Heads, Becomes, Waits, Sleeps, Doubts, Rests}
 use Rattle.suspend.specs.Store.{Event, added, stored, without, stored_at, is_stored, IsAscending}
 use Rattle.suspend.specs.inside.Kept.{numbered, told, IsKept, Alike}
 use Rattle.suspend.specs.inside.Given.{given, with_constraint, AllStored}
@@ -24,7 +24,7 @@ nat_eq-suc : (a b : ℕ) → nat_eq a b ≡ nat_eq (suc a) (suc b)
 nat_eq-suc a b = grind (arith, nat_tests)
 
 -- numbers and places
-numbered-newest : {A : Type 0} (xs : List A) (i : ℕ) → numbered xs (suc i) ≡ slice_get (reverse xs) i
+pub numbered-newest : {A : Type 0} (xs : List A) (i : ℕ) → numbered xs (suc i) ≡ slice_get (reverse xs) i
 numbered-newest [] i = refl
 numbered-newest (x ∷ xs) i =
     ap (cond (nat_eq (suc (length xs)) (suc i)) (Some x)) (numbered-newest xs i)
@@ -227,18 +227,36 @@ module _ {X : Type 0} where
   kept-nodes (Joins ∷ older) cs fs ns ls us w = ap length w.6 ∙ ap suc (kept-nodes older w.1 fs w.3 w.4 us w.8) ∙ sym (ap length w.5)
   kept-nodes (Leaves k ∷ older) cs fs ns ls us w = kept-nodes older cs fs ns (undone w.0) w.1 w.6
   kept-nodes (Fires ∷ older) cs fs ns ls us w = kept-nodes older cs w.1 ns ls us w.3
+  kept-nodes (Heads v n ∷ older) cs fs ns ls us w = kept-nodes older cs fs ns ls us w
+  kept-nodes (Becomes v u' ∷ older) cs fs ns ls us w = kept-nodes older cs fs ns ls us w
+  kept-nodes (Waits n ∷ older) cs fs ns ls us w = kept-nodes older cs fs ns ls us w
+  kept-nodes (Sleeps n ∷ older) cs fs ns ls us w = kept-nodes older cs fs ns ls us w
+  kept-nodes (Doubts ∷ older) cs fs ns ls us w = kept-nodes older cs fs ns ls us w
+  kept-nodes (Rests ∷ older) cs fs ns ls us w = kept-nodes older cs fs ns ls us w
 
   pub kept-added : (notes : List Note) (cs : List (Constraint X)) (fs : List Fired) (ns : List Node) (ls : List (Node × ℕ)) (us : List (Unlinked ℕ)) → IsKept notes cs fs ns ls us → added (told notes cs fs) ≡ length cs
   kept-added [] cs fs ns ls us w = sym (ap length w.0)
   kept-added (Joins ∷ older) cs fs ns ls us w = ap (λ zs. added (told (Joins ∷ older) zs fs)) w.5 ∙ ap suc (kept-added older w.1 fs w.3 w.4 us w.8) ∙ sym (ap length w.5)
   kept-added (Leaves k ∷ older) cs fs ns ls us w = kept-added older cs fs ns (undone w.0) w.1 w.6
   kept-added (Fires ∷ older) cs fs ns ls us w = ap (λ zs. added (told (Fires ∷ older) cs zs)) w.2 ∙ kept-added older cs w.1 ns ls us w.3
+  kept-added (Heads v n ∷ older) cs fs ns ls us w = kept-added older cs fs ns ls us w
+  kept-added (Becomes v u' ∷ older) cs fs ns ls us w = kept-added older cs fs ns ls us w
+  kept-added (Waits n ∷ older) cs fs ns ls us w = kept-added older cs fs ns ls us w
+  kept-added (Sleeps n ∷ older) cs fs ns ls us w = kept-added older cs fs ns ls us w
+  kept-added (Doubts ∷ older) cs fs ns ls us w = kept-added older cs fs ns ls us w
+  kept-added (Rests ∷ older) cs fs ns ls us w = kept-added older cs fs ns ls us w
 
   pub kept-length : (notes : List Note) (cs : List (Constraint X)) (fs : List Fired) (ns : List Node) (ls : List (Node × ℕ)) (us : List (Unlinked ℕ)) → IsKept notes cs fs ns ls us → length (told notes cs fs) ≡ length notes
   kept-length [] cs fs ns ls us w = refl
   kept-length (Joins ∷ older) cs fs ns ls us w = ap (λ zs. length (told (Joins ∷ older) zs fs)) w.5 ∙ ap suc (kept-length older w.1 fs w.3 w.4 us w.8)
   kept-length (Leaves k ∷ older) cs fs ns ls us w = ap suc (kept-length older cs fs ns (undone w.0) w.1 w.6)
   kept-length (Fires ∷ older) cs fs ns ls us w = ap (λ zs. length (told (Fires ∷ older) cs zs)) w.2 ∙ ap suc (kept-length older cs w.1 ns ls us w.3)
+  kept-length (Heads v n ∷ older) cs fs ns ls us w = ap suc (kept-length older cs fs ns ls us w)
+  kept-length (Becomes v u' ∷ older) cs fs ns ls us w = ap suc (kept-length older cs fs ns ls us w)
+  kept-length (Waits n ∷ older) cs fs ns ls us w = ap suc (kept-length older cs fs ns ls us w)
+  kept-length (Sleeps n ∷ older) cs fs ns ls us w = ap suc (kept-length older cs fs ns ls us w)
+  kept-length (Doubts ∷ older) cs fs ns ls us w = ap suc (kept-length older cs fs ns ls us w)
+  kept-length (Rests ∷ older) cs fs ns ls us w = ap suc (kept-length older cs fs ns ls us w)
 
   joined : (older : List Note) (c : Constraint X) (cs : List (Constraint X)) (fs : List Fired) (n : Node) (ns : List Node) (ls : List (Node × ℕ)) (us : List (Unlinked ℕ)) → IsKept older cs fs ns ls us
       → Alike cs ns ls (stored (told older cs fs)) → Alike (c ∷ cs) (n ∷ ns) (ls ++ (n, suc (length cs)) ∷ []) (stored (told (Joins ∷ older) (c ∷ cs) fs))
@@ -260,3 +278,9 @@ module _ {X : Type 0} where
       let rest = alike-left cs ns u.2 u.3 u.0 u.1 (stored log) (kept-alike older cs fs ns (undone u) w.1 w.6) (numbers-ascend log) in
       subst (λ zs. Alike cs ns zs (without k (stored log))) (sym w.5) (subst (λ (m : ℕ). Alike cs ns (left_by u) (without m (stored log))) w.3 rest)
   kept-alike (Fires ∷ older) cs fs ns ls us w = subst (λ zs. Alike cs ns ls (stored (told (Fires ∷ older) cs zs))) (sym w.2) (kept-alike older cs w.1 ns ls us w.3)
+  kept-alike (Heads v n ∷ older) cs fs ns ls us w = kept-alike older cs fs ns ls us w
+  kept-alike (Becomes v u' ∷ older) cs fs ns ls us w = kept-alike older cs fs ns ls us w
+  kept-alike (Waits n ∷ older) cs fs ns ls us w = kept-alike older cs fs ns ls us w
+  kept-alike (Sleeps n ∷ older) cs fs ns ls us w = kept-alike older cs fs ns ls us w
+  kept-alike (Doubts ∷ older) cs fs ns ls us w = kept-alike older cs fs ns ls us w
+  kept-alike (Rests ∷ older) cs fs ns ls us w = kept-alike older cs fs ns ls us w

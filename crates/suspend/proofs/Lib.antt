@@ -7,3 +7,8 @@ pub mod KeptLemmas
 pub mod PairLemmas
 pub mod StoreLemmas
 pub mod AwakeLemmas
+pub mod LedgerLemmas
+pub mod WaitLemmas
+pub mod FollowLemmas
+pub mod QueueLemmas
+pub mod Results

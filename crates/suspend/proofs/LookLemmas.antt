@@ -1,8 +1,7 @@
 -- What looking at a key shows.
-use Rattle.std.proofs.Common.{◌≡◌, ℕ, true, false, List, [], ◌∷◌, ◌++◌, refl, ap, ◌∙◌, subst, Option, Some, None}
+use Rattle.std.proofs.Common.{◌≡◌, ℕ, false, List, [], ◌∷◌, ◌++◌, refl, ap, ◌∙◌, subst, Option, Some, None}
 use Rattle.level_terms.specs.declared.node.TermId.{TermId}
 use Rattle.level_terms.specs.declared.node.VarId.{VarId}
-use Rattle.ref_terms.proofs.search.WakingLemmas.{heading-flex}
 use Rattle.level_terms.specs.Graph.{Graph}
 use Rattle.level_terms.specs.Reading.{read}
 use Rattle.ref_terms.specs.terms.Term as term
@@ -91,6 +90,6 @@ looks g depth u (Flex v args) f = ap heading f.3 ∙ ap variable_of (all-applied
 looks g depth u (Redex t []) f = elim f.1 [ ]
 looks g depth u (Redex t (a ∷ more)) f = not-flex u (ap heading f.3 ∙ stuck-head (read g t.index names) (all_read g more) (read g a.index names) f.0.reads f.1)
 
--- a form that a variable heads is that of flexible terms
-pub form-flex : (f : Whnf) (v : VarId) (ts : List TermId) → f ≡ Flex v ts → (u : Term) → LooksAt u f → is_flex u ≡ true
-form-flex f v ts e u h = heading-flex u v.index (subst (LooksAt u) e h)
+-- a form shows the variable that heads a term
+pub shows-variable : (f : Whnf) (v : VarId) (ts : List TermId) → f ≡ Flex v ts → (u : Term) → LooksAt u f → heading u ≡ Some v.index
+shows-variable f v ts e u h = subst (LooksAt u) e h

@@ -7,7 +7,7 @@ use Rattle.dance_list.specs.declared.cells.Node.{Node}
 use Rattle.suspend.specs.declared.constraint.Constraint.{Constraint}
 use Rattle.suspend.specs.declared.constraint.Fired.{Fired}
 use Rattle.suspend.specs.declared.note.Note.{Note}
-use Rattle.suspend.specs.declared.note.Note.TheVariants.{Joins, Leaves, Fires}
+use Rattle.suspend.specs.declared.note.Note.TheVariants.{Joins, Leaves, Fires, Heads, Becomes, Waits, Sleeps, Doubts, Rests}
 use Rattle.suspend.specs.Store.{Event, joins, leaves, fires, firings, added, stored, stored_at, is_stored, oldest, IsLater}
 use Rattle.suspend.specs.inside.Kept.{numbered, told, IsKept}
 use Rattle.suspend.proofs.KeptLemmas.{kept-alike, kept-added, kept-length, alike-stands, alike-found, alike-at, numbered-once, Stands}
@@ -156,6 +156,12 @@ module _ {X : Type 0} where
   kept-firings (Joins ∷ older) cs fs ns ls us w = ap (λ z. firings (told (Joins ∷ older) z fs)) w.5 ∙ kept-firings older w.1 fs w.3 w.4 us w.8
   kept-firings (Leaves k ∷ older) cs fs ns ls us w = kept-firings older cs fs ns (undone w.0) w.1 w.6
   kept-firings (Fires ∷ older) cs fs ns ls us w = ap (λ z. firings (told (Fires ∷ older) cs z)) w.2 ∙ ap (λ z. z ++ w.0 ∷ []) (kept-firings older cs w.1 ns ls us w.3) ∙ sym (reverse-append (w.0 ∷ []) w.1) ∙ ap reverse (sym w.2)
+  kept-firings (Heads v n ∷ older) cs fs ns ls us w = kept-firings older cs fs ns ls us w
+  kept-firings (Becomes v u' ∷ older) cs fs ns ls us w = kept-firings older cs fs ns ls us w
+  kept-firings (Waits n ∷ older) cs fs ns ls us w = kept-firings older cs fs ns ls us w
+  kept-firings (Sleeps n ∷ older) cs fs ns ls us w = kept-firings older cs fs ns ls us w
+  kept-firings (Doubts ∷ older) cs fs ns ls us w = kept-firings older cs fs ns ls us w
+  kept-firings (Rests ∷ older) cs fs ns ls us w = kept-firings older cs fs ns ls us w
 
   -- a constraint that left comes back
   pub unleft : (older : List Note) (cs : List (Constraint X)) (fs : List Fired) (ns : List Node) (k : ℕ) (ls ls' : List (Node × ℕ)) (us us' : List (Unlinked ℕ)) (u : Unlinked ℕ)

@@ -12,7 +12,7 @@ pub struct Constraint<C> {
 }
 
 /// A rule and the numbers of the constraints that it fired on, in the order of its heads.
-#[derive(Drop)]
+#[derive(Drop, PartialEq, Eq, Hash)]
 pub struct Fired {
     pub rule: usize,
     pub constraints: Vec<u64>,

@@ -6,7 +6,7 @@ ghost use Rattle.std.specs.Map.Iter.{TakesFirst};
 ghost use Rattle.suspend.specs.Iter.{shown};
 
 use crate::constraint::Constraint;
-use crate::store::Store;
+use crate::ledger::Ledger;
 use dance_list::DanceIter;
 use std::marker::Model;
 
@@ -14,7 +14,7 @@ use std::marker::Model;
 /// left.
 #[derive(Drop)]
 pub struct StoreIter<'a, C: Drop> {
-    pub(crate) store: &'a Store<C>,
+    pub(crate) ledger: &'a Ledger<C>,
     pub(crate) rest: DanceIter<'a, u64>,
 }
 
@@ -27,9 +27,9 @@ impl<'a, C: Drop> Model for StoreIter<'a, C> {
     ghost use Rattle.suspend.specs.Store.{stored};
     ghost use Rattle.suspend.specs.inside.Given.{given, AllStored};
 
-    ghost view = { λ it. given (stored it.store.now) it.rest };
+    ghost view = { λ it. given (stored it.ledger.now) it.rest };
 
-    ghost invariant = { λ it. AllStored it.store.now it.rest };
+    ghost invariant = { λ it. AllStored it.ledger.now it.rest };
 }
 
 impl<'a, C: Drop> Iterator for StoreIter<'a, C> {
@@ -42,7 +42,7 @@ impl<'a, C: Drop> Iterator for StoreIter<'a, C> {
     fn next(&mut self) -> Option<(u64, &'a Constraint<C>)> {
         match self.rest.next() {
             None => None,
-            Some((_, number)) => Some((*number, self.store.get(*number))),
+            Some((_, number)) => Some((*number, self.ledger.get(*number))),
         }
     }
 }

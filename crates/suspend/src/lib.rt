@@ -2,11 +2,14 @@
 #![tactic(auto)]
 
 mod constraint;
+mod following;
 mod iter;
 pub mod laws;
+mod ledger;
 mod looking;
 mod note;
 mod pairs;
+mod queue;
 mod store;
 
 pub use constraint::{Constraint, Fired};

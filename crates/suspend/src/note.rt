@@ -6,4 +6,10 @@ pub(crate) enum Note {
     Joins,
     Leaves(u64),
     Fires,
+    Heads(u64, u64),
+    Becomes(u64, u64),
+    Waits(u64),
+    Sleeps(u64),
+    Doubts,
+    Rests,
 }

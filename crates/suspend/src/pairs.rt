@@ -1,37 +1,60 @@
-//! Comparing pairs of a rule and constraints.
+//! Pairs of a rule and constraints, found by a hash.
 
-ghost use Rattle.std.specs.Prelude.{◌≡◌, nat_eq, ◌&&◌};
-ghost use Rattle.ref_terms.specs.search.RuleInstance.{numbers_eq};
+ghost use Rattle.std.specs.Prelude.{◌≡◌, ◌<◌, false, [], ◌∷◌, ◌++◌, length, OnOk, OnErr};
 ghost use Rattle.suspend.specs.Store.{has_fired};
 
 use crate::constraint::Fired;
+use indexmap::IndexSet;
+use std::alloc::{AllocError, Global};
+use std::marker::Model;
 
-/// Whether two lists of numbers are the same.
-fn are_equal(left: &[u64], right: &[u64]) -> bool
-    ensures { result ≡ numbers_eq left.now right.now }
-{
-    left == right
+/// Pairs, none twice. Contracts see them as a list, oldest first.
+#[derive(Drop)]
+pub(crate) struct Pairs {
+    set: IndexSet<Fired>,
 }
 
-/// Whether two pairs are the same.
-pub(crate) fn is_same(left: &Fired, right: &Fired) -> bool
-    ensures { result ≡ nat_eq left.now.rule right.now.rule && numbers_eq left.now.constraints.items right.now.constraints.items }
-{
-    left.rule == right.rule && are_equal(left.constraints.as_slice(), right.constraints.as_slice())
+impl Model for Pairs {
+    ghost use Rattle.std.specs.Prelude.{List};
+    ghost use Rattle.suspend.specs.declared.constraint.Fired.{Fired as Pair};
+
+    ghost Value = { List Pair };
+
+    ghost view = { λ p. p.set.keys };
 }
 
-/// Whether a pair is one of these.
-pub(crate) fn has_pair(pairs: &[Fired], pair: &Fired) -> bool
-    ensures { result ≡ has_fired pairs.now pair.now }
-{
-    let mut i = 0;
-    while i < pairs.len() {
-        let known = &pairs[i];
-        let same = is_same(pair, known);
-        if same {
-            return true;
+impl Pairs {
+    /// No pairs. Takes no memory.
+    pub(crate) fn new(alloc: Global) -> Pairs
+        ensures { result ≡ [] }
+    {
+        Pairs {
+            set: IndexSet::new(alloc),
         }
-        i += 1;
     }
-    false
+
+    /// Puts a new pair last. Answers `AllocError` on want of memory alone.
+    pub(crate) fn push(&mut self, pair: Fired) -> Result<(), AllocError>
+        requires { has_fired self.old pair ≡ false }
+        ensures ok { OnOk result (self.new ≡ self.old ++ pair ∷ []) }
+        ensures err { OnErr result (self.new ≡ self.old) }
+    {
+        self.set.insert(pair)?;
+        Ok(())
+    }
+
+    /// Whether a pair is one of these.
+    pub(crate) fn has(&self, pair: &Fired) -> bool
+        ensures { result ≡ has_fired self.now pair.now }
+    {
+        self.set.contains(pair)
+    }
+
+    /// Takes the last pair out. Takes no memory.
+    pub(crate) fn drop_last(&mut self)
+        requires { 0 < length self.old }
+        ensures { (last : Fired) × (self.old ≡ self.new ++ last ∷ []) }
+    {
+        let _last = self.set.pop();
+    }
 }

@@ -1,17 +1,18 @@
 //! The store.
 
-ghost use Rattle.std.specs.Prelude.{◌≡◌, ℕ, ◌<◌, ◌≤◌, true, false, nat_eq, List, [], ◌∷◌, ◌++◌, length, vec_len, vec_capacity, Some, IfOk, OnOk, OnErr, IfErr};
+ghost use Rattle.std.specs.Prelude.{◌≡◌, ℕ, ◌<◌, ◌≤◌, true, false, List, [], ◌∷◌, length, Some, IfOk, OnOk, OnErr, IfErr};
 ghost use Rattle.level_terms.specs.Gains.{GainsNodes};
-ghost use Rattle.suspend.specs.Store.{Event, joins, leaves, fires, added, stored, firings, has_fired, is_stored, stored_at, oldest, IsLater, SameStore};
-ghost use Rattle.suspend.specs.Keyed.{first_awake, Keyed, Follows};
+ghost use Rattle.suspend.specs.Store.{Event, joins, leaves, fires, waits, added, stored, firings, rows, waiting, has, has_fired, is_stored, stored_at, oldest, HasAll, IsLater, SameStore};
+ghost use Rattle.suspend.specs.Keyed.{first_awake, Keyed, Follows, Stirred};
+ghost use Rattle.suspend.specs.inside.Waking.{StirsOn, AllWait, KeepsKeyed, FollowsOne};
 
 use crate::constraint::{Constraint, Fired};
+use crate::following::renamed_to;
 use crate::iter::StoreIter;
-use crate::looking::is_awake;
-use crate::note::Note;
-use crate::pairs::has_pair;
-use dance_list::{DanceList, Node};
-use level_terms::{Change, Heap};
+use crate::ledger::Ledger;
+use crate::looking::first_up;
+use crate::queue::Queue;
+use level_terms::{Change, Heap, VarId};
 use std::alloc::{AllocError, AllocFailed, Global};
 use std::marker::Model;
 
@@ -26,24 +27,21 @@ pub struct StoreMark {
 #[derive(Drop)]
 pub struct Store<C: Drop> {
     alloc: Global,
-    notes: Vec<Note>,
-    constraints: Vec<Constraint<C>>,
-    pairs: Vec<Fired>,
-    places: Vec<Node>,
-    list: DanceList<u64>,
+    ledger: Ledger<C>,
+    queue: Queue,
+    all: bool,
 }
 
 impl<C: Drop> Model for Store<C> {
-    ghost use Rattle.std.specs.Prelude.{◌≡◌, List, reverse};
-    ghost use Rattle.dance_list.specs.Dance.{nodes, linked, unlinked};
+    ghost use Rattle.std.specs.Prelude.{List};
     ghost use Rattle.suspend.specs.Store.{Event};
-    ghost use Rattle.suspend.specs.inside.Kept.{told, IsKept};
+    ghost use Rattle.suspend.specs.inside.Waking.{AreQueued};
 
     ghost Value = { List (Event C) };
 
-    ghost view = { λ s. told (reverse s.notes.items) (reverse s.constraints.items) (reverse s.pairs.items) };
+    ghost view = { λ s. s.ledger };
 
-    ghost invariant = { λ s. IsKept (reverse s.notes.items) (reverse s.constraints.items) (reverse s.pairs.items) (reverse s.places.items) (linked s.list) (unlinked s.list) × (nodes s.list ≡ s.places.items) };
+    ghost invariant = { λ s. AreQueued s.ledger s.all s.queue };
 }
 
 impl<C: Drop> Store<C> {
@@ -53,11 +51,9 @@ impl<C: Drop> Store<C> {
     {
         Store {
             alloc,
-            notes: Vec::new(alloc),
-            constraints: Vec::new(alloc),
-            pairs: Vec::new(alloc),
-            places: Vec::new(alloc),
-            list: DanceList::new(alloc),
+            ledger: Ledger::new(alloc),
+            queue: Queue::new(alloc),
+            all: false,
         }
     }
 
@@ -68,20 +64,9 @@ impl<C: Drop> Store<C> {
         ensures err { OnErr result (self.new ≡ self.old) }
         ensures handed_back { IfErr result (λ failed. failed.value ≡ c) }
     {
-        match make_room(&mut self.notes, &mut self.constraints, &mut self.places) {
+        match self.queue.push(self.ledger.next_number()) {
             Err(_) => Err(AllocFailed { value: c }),
-            Ok(()) => {
-                let number = self.constraints.len() as u64 + 1;
-                match self.list.push_back(number) {
-                    Err(_) => Err(AllocFailed { value: c }),
-                    Ok(node) => {
-                        self.places.push_reserved(node);
-                        self.constraints.push_reserved(c);
-                        self.notes.push_reserved(Note::Joins);
-                        Ok(number)
-                    }
-                }
-            },
+            Ok(()) => self.ledger.join(c),
         }
     }
 
@@ -91,12 +76,7 @@ impl<C: Drop> Store<C> {
         ensures ok { OnOk result (self.new ≡ leaves id ∷ self.old) }
         ensures err { OnErr result (self.new ≡ self.old) }
     {
-        self.notes.reserve(1)?;
-        let node = self.places[(id - 1) as usize];
-        self.list.is_sound();
-        self.list.unlink(node);
-        self.notes.push_reserved(Note::Leaves(id));
-        Ok(())
+        self.ledger.leave(id)
     }
 
     /// Notes that a rule fired. Answers `AllocError` on want of memory alone.
@@ -105,18 +85,14 @@ impl<C: Drop> Store<C> {
         ensures ok { OnOk result (self.new ≡ fires pair ∷ self.old) }
         ensures err { OnErr result (self.new ≡ self.old) }
     {
-        self.notes.reserve(1)?;
-        self.pairs.reserve(1)?;
-        self.pairs.push_reserved(pair);
-        self.notes.push_reserved(Note::Fires);
-        Ok(())
+        self.ledger.fire(pair)
     }
 
     /// Whether the rule fired on these constraints.
     pub fn fired(&self, pair: &Fired) -> bool
         ensures { result ≡ has_fired (firings self.now) pair.now }
     {
-        has_pair(self.pairs.as_slice(), pair)
+        self.ledger.fired(pair)
     }
 
     /// The constraint with a number.
@@ -124,24 +100,21 @@ impl<C: Drop> Store<C> {
         requires { is_stored self.now id ≡ true }
         ensures { stored_at (stored self.now) id ≡ Some result.now }
     {
-        &self.constraints[(id - 1) as usize]
+        self.ledger.get(id)
     }
 
     /// The stored constraints with their numbers, in order of declaration.
     pub fn iter(&self) -> StoreIter<'_, C>
         ensures { result ≡ stored self.now }
     {
-        StoreIter {
-            store: self,
-            rest: self.list.iter(),
-        }
+        self.ledger.iter()
     }
 
     /// How many constraints are stored.
     pub fn len(&self) -> usize
         ensures { result ≡ length (stored self.now) }
     {
-        self.list.len()
+        self.ledger.stored_len()
     }
 
     /// Tells the store what a call has put on the heap's trail: what the store knows of the keys of its constraints, it
@@ -151,7 +124,83 @@ impl<C: Drop> Store<C> {
         ensures same { SameStore self.old self.new }
         ensures later { IsLater self.old self.new }
     {
-        let _notes = &self.notes;
+        heap.is_sound();
+        if self.ledger.len() == 0 {
+            return;
+        }
+        let mut i = 0;
+        while i < entries.len() {
+            self.follow_one(heap, entries[i].variable);
+            i += 1;
+        }
+    }
+
+    /// Follows the assignment of one variable. For want of memory all keys are to be looked at.
+    fn follow_one(&mut self, heap: &Heap, v: VarId)
+        requires { 0 < length self.old }
+        ensures keyed { FollowsOne self.old self.new heap.now v.index }
+        ensures same { SameStore self.old self.new }
+        ensures later { IsLater self.old self.new }
+    {
+        match self.try_follow(heap, v) {
+            Ok(()) => {}
+            Err(_) => self.doubt(),
+        }
+    }
+
+    /// Follows the assignment of one variable: a variable that it became gets its rows, and else what has a row with it is
+    /// to be looked at. Answers `AllocError` on want of memory alone.
+    fn try_follow(&mut self, heap: &Heap, v: VarId) -> Result<(), AllocError>
+        ensures keyed { OnOk result (FollowsOne self.old self.new heap.now v.index) }
+        ensures kept { OnErr result (KeepsKeyed self.old self.new) }
+        ensures same { SameStore self.old self.new }
+        ensures later { IsLater self.old self.new }
+    {
+        heap.is_sound();
+        let variable = v.index as u64;
+        if self.ledger.is_unwatched(variable) {
+            return Ok(());
+        }
+        match renamed_to(heap, v) {
+            Some(other) => self.ledger.hand_over(variable, other),
+            None => self.stir(variable),
+        }
+    }
+
+    /// What has a row with the variable is to be looked at. Answers `AllocError` on want of memory alone.
+    fn stir(&mut self, variable: u64) -> Result<(), AllocError>
+        ensures stirred { OnOk result (Stirred (rows self.new) (waiting self.new) variable) }
+        ensures on { StirsOn self.old self.new }
+    {
+        let mut numbers = Vec::new(self.alloc);
+        self.ledger.watchers(variable, &mut numbers)?;
+        let mut i = 0;
+        while i < numbers.len() {
+            self.wait(numbers[i])?;
+            i += 1;
+        }
+        Ok(())
+    }
+
+    /// The keys of a constraint are to be looked at. Answers `AllocError` on want of memory alone.
+    fn wait(&mut self, number: u64) -> Result<(), AllocError>
+        ensures ok { OnOk result (self.new ≡ waits number ∷ self.old) }
+        ensures err { OnErr result (self.new ≡ self.old) }
+    {
+        self.queue.push(number)?;
+        self.ledger.wait(number)
+    }
+
+    /// All keys are to be looked at. Takes no memory.
+    fn doubt(&mut self)
+        requires { 0 < length self.old }
+        ensures wait { AllWait self.new }
+        ensures kept { KeepsKeyed self.old self.new }
+        ensures same { SameStore self.old self.new }
+        ensures later { IsLater self.old self.new }
+    {
+        self.ledger.doubt();
+        self.all = true;
     }
 
     /// The number of the first constraint with a key that isn't headed by a variable, if there is one. It looks at what
@@ -165,19 +214,9 @@ impl<C: Drop> Store<C> {
         ensures gains { GainsNodes heap.old heap.new }
     {
         heap.is_sound();
-        let mut rest = self.iter();
-        while let Some((number, constraint)) = rest.next() {
-            let awake = is_awake(
-                self.alloc,
-                heap,
-                constraint.keys.as_slice(),
-                constraint.names,
-            )?;
-            if awake {
-                return Ok(Some(number));
-            }
-        }
-        Ok(None)
+        refill(self.all, &self.ledger, &mut self.queue)?;
+        self.all = false;
+        first_up(self.alloc, &mut self.ledger, &mut self.queue, heap)
     }
 
     /// The place after the newest event.
@@ -185,7 +224,7 @@ impl<C: Drop> Store<C> {
         ensures { result.events ≡ length self.now }
     {
         StoreMark {
-            events: self.notes.len(),
+            events: self.ledger.len(),
         }
     }
 
@@ -195,53 +234,26 @@ impl<C: Drop> Store<C> {
         ensures log { self.new ≡ oldest m.events self.old }
         ensures as_at_the_mark { (log : List (Event C)) → IsLater log self.old → m.events ≡ length log → self.new ≡ log }
     {
-        while self.mark().events > m.events {
-            self.take_back();
+        if self.ledger.len() == m.events {
+            return;
         }
-    }
-
-    /// Takes the newest event back. Takes no memory.
-    fn take_back(&mut self)
-        requires { 0 < length self.old }
-        ensures { (e : Event C) × (self.old ≡ e ∷ self.new) }
-    {
-        match self.notes.pop() {
-            Some(Note::Joins) => {
-                drop_last(&mut self.places);
-                drop_last(&mut self.constraints);
-                self.list.truncate(1);
-            }
-            Some(Note::Leaves(id)) => {
-                let node = self.places[(id - 1) as usize];
-                self.list.relink(node);
-            }
-            Some(Note::Fires) => drop_last(&mut self.pairs),
-            None => {}
-        }
+        self.ledger.undo(m.events);
+        self.queue.clear();
+        self.all = !self.ledger.is_settled();
     }
 }
 
-/// Makes room for a note, a constraint and its node. Answers `AllocError` on want of memory alone.
-fn make_room<C>(
-    notes: &mut Vec<Note>,
-    constraints: &mut Vec<Constraint<C>>,
-    places: &mut Vec<Node>,
-) -> Result<(), AllocError>
-    ensures notes { notes.new.items ≡ notes.old.items }
-    ensures constraints { constraints.new.items ≡ constraints.old.items }
-    ensures places { places.new.items ≡ places.old.items }
-    ensures room { OnOk result ((vec_len notes.new < vec_capacity notes.new) × (vec_len constraints.new < vec_capacity constraints.new) × (vec_len places.new < vec_capacity places.new)) }
+/// Puts all stored numbers into the queue, where all are to be looked at. Answers `AllocError` on want of memory alone.
+fn refill<C: Drop>(all: bool, ledger: &Ledger<C>, queue: &mut Queue) -> Result<(), AllocError>
+    ensures more { HasAll queue.old queue.new }
+    ensures all { OnOk result (all ≡ true → (n : ℕ) → is_stored ledger.now n ≡ true → has queue.new n ≡ true) }
 {
-    notes.reserve(1)?;
-    constraints.reserve(1)?;
-    places.reserve(1)?;
+    if !all {
+        return Ok(());
+    }
+    let mut rest = ledger.iter();
+    while let Some((number, _)) = rest.next() {
+        queue.push(number)?;
+    }
     Ok(())
-}
-
-/// Takes the last of a list out.
-fn drop_last<T: Drop>(items: &mut Vec<T>)
-    requires { 0 < length items.old.items }
-    ensures { (last : T) × (items.old.items ≡ items.new.items ++ last ∷ []) }
-{
-    let _last = items.pop();
 }
