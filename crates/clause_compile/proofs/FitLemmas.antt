@@ -25,7 +25,7 @@ test-false s true place e = absurd (let k : record { rule = s; place = place } �
 test-false s false place e = refl
 
 -- a head without a breach has a constant
-head-sound : (preds : List (ℕ × Pred)) (h : PlacedHead) → head_breaches preds h ≡ [] → lacks_constant h.tree ≡ false
+pub head-sound : (preds : List (ℕ × Pred)) (h : PlacedHead) → head_breaches preds h ≡ [] → lacks_constant h.tree ≡ false
 head-sound preds h e =
     let s2 = breaches_at S2 (cond (lacks_constant h.tree) (h.place ∷ []) []) in
     let s3 = breaches_at S3 (cond (has_other_arity preds h.tree) (h.place ∷ []) []) in
@@ -49,7 +49,7 @@ all-headed p none e =
     let rules = flat_map rule_breaches p.rules in
     heads-sound p.preds p.clauses (flat_map rule_heads p.rules) (append-none (s1 ++ lines) heads (append-none (s1 ++ lines ++ heads) rules w).0).1
 
-option-within : (vars : ℕ) (o : Option Tree) → IfSome o (IsFormedOver vars) → IfSome o (λ t. IsWithin vars 0 (as_term t))
+pub option-within : (vars : ℕ) (o : Option Tree) → IfSome o (IsFormedOver vars) → IfSome o (λ t. IsWithin vars 0 (as_term t))
 option-within vars None w = tt
 option-within vars (Some t) w = w.within
 

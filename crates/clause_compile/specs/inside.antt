@@ -5,3 +5,5 @@ pub mod Compiled
 pub mod Codes
 pub mod Fit
 pub mod Keys
+pub mod RuleCodes
+pub mod Rows

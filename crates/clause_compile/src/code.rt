@@ -6,8 +6,10 @@ ghost use Rattle.ref_terms.specs.unification.Spine.{head_of};
 ghost use Rattle.ref_terms.specs.search.Program.{Program, Clause, modes_of};
 ghost use Rattle.level_terms.specs.Graph.{Graph};
 ghost use Rattle.clause_compile.specs.Programs.{IsCode, inputs_of};
+ghost use Rattle.clause_compile.specs.Rules.{IsRulesCode};
 ghost use Rattle.std.specs.Option.{option_copied};
 
+use crate::rules::Rules;
 use crate::skeleton::ClauseCode;
 use clause_key::Key;
 use lp_resolve::{Pred, Preds};
@@ -19,6 +21,7 @@ pub struct Code {
     pub(crate) clauses: Sequence<ClauseCode>,
     pub(crate) keys: Sequence<Key>,
     pub(crate) preds: Preds,
+    pub(crate) rules: Rules,
 }
 
 impl Code {
@@ -51,5 +54,12 @@ impl Code {
         ensures { (n : ℕ) (g : Graph) (p : Program) (k : Clause) → IsCode n g self.now p → slice_get p.clauses clause ≡ Some k → head_of k.head ≡ Some (Con result.0) }
     {
         self.clause(clause).pred
+    }
+
+    /// The program's rules. Takes no memory.
+    pub fn rules(&self) -> &Rules
+        ensures { (n : ℕ) (g : Graph) (p : Program) → IsCode n g self.now p → IsRulesCode n g result.now p }
+    {
+        &self.rules
     }
 }

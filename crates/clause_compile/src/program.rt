@@ -20,6 +20,7 @@ ghost use Rattle.clause_compile.specs.inside.Fit.{IsClauseFit, MadeOf};
 use crate::code::Code;
 use crate::compiling::compile_clause;
 use crate::keys::own_keys;
+use crate::rules::compile_rules;
 use crate::skeleton::ClauseCode;
 use level_terms::Heap;
 use lp_resolve::{
@@ -168,7 +169,7 @@ fn clauses_fit(checked: &Checked)
     let _program = checked.program();
 }
 
-/// Compiles a program: makes the nodes that all instances of its clauses share, so the heap has no
+/// Compiles a program: makes the nodes that all instances of its clauses and rules share, so the heap has no
 /// variable yet. Takes time and memory linear in the program, but for the look-up of predicates.
 ///
 /// Errors: want of memory.
@@ -179,6 +180,7 @@ pub fn compile(alloc: Global, heap: &mut Heap, checked: &Checked) -> Result<Code
     ensures grows { Grows heap.old heap.new [] [] }
 {
     clauses_fit(checked);
+    let rules = compile_rules(alloc, heap, checked)?;
     let program = checked.program();
     let mut preds = Preds::new(alloc);
     put_lines(alloc, &mut preds, program.decls.as_slice())?;
@@ -190,5 +192,6 @@ pub fn compile(alloc: Global, heap: &mut Heap, checked: &Checked) -> Result<Code
         clauses,
         keys,
         preds,
+        rules,
     })
 }

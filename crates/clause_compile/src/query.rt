@@ -1,13 +1,13 @@
 //! Instances of queries.
 
-ghost use Rattle.std.specs.Prelude.{◌≡◌, ◌<◌, [], length, get_or, IfOk};
+ghost use Rattle.std.specs.Prelude.{◌≡◌, [], length, IfOk};
 ghost use Rattle.level_terms.specs.Growth.{Grows};
 ghost use Rattle.lp_resolve.specs.Plain.{plain_query};
 ghost use Rattle.lp_resolve.specs.Trees.{IsWithin, as_term};
 ghost use Rattle.clause_compile.specs.Queries.{IsQueryOf};
 
 use crate::compiling::compile_term;
-use crate::instance::{Room, make_terms, make_variables};
+use crate::instance::{Room, first_of, make_terms, make_variables};
 use level_terms::{Heap, TermId};
 use lp_resolve::Query;
 use std::alloc::{AllocError, Global};
@@ -18,14 +18,6 @@ pub struct QueryInstance {
     /// The nodes of its variables, whose numbers are those of the query.
     pub variables: Vec<TermId>,
     pub goal: TermId,
-}
-
-/// The first of nodes.
-fn first_of(terms: &[TermId]) -> TermId
-    requires { 0 < length terms.now }
-    ensures { result ≡ get_or terms.now 0 (record { index = 0 }) }
-{
-    terms[0]
 }
 
 /// Makes a query's variables at depth 0, and its goal over them. The heap has no variable yet, so that

@@ -1,6 +1,6 @@
 -- Forms around clauses.
-use Rattle.std.proofs.Common.{◌≡◌, ℕ, suc, ◌≤◌, List, [], ◌∷◌, ◌++◌, map, reverse, refl, sym, ap, ap₂, ◌∙◌, arith, append-nil, append_assoc}
-use Rattle.std.proofs.lemmas.List.{map-append, reverse-append}
+use Rattle.std.proofs.Common.{◌≡◌, ℕ, suc, ◌≤◌, List, [], ◌∷◌, ◌++◌, map, reverse, refl, ap, ap₂, ◌∙◌, arith, append-nil, append_assoc}
+use Rattle.std.proofs.lemmas.List.{map-append}
 use Rattle.ref_terms.specs.terms.Term.{Term}
 use Rattle.ref_terms.specs.unification.Closing.{close}
 use Rattle.ref_terms.specs.search.Reserved.{if_term, implies_term, pi_term}
@@ -43,13 +43,6 @@ own-reverse : (f : Form) → reverse (own_goals f) ≡ own_goals f
 own-reverse (If t) = refl
 own-reverse (Implies t) = refl
 own-reverse (Pi l) = refl
-
-pub goals-step : (f : Form) (fs : List Form) (old new whole : List TermId) → new ≡ old ++ own_goals f → goals_of (f ∷ fs) ++ reverse old ≡ whole → goals_of fs ++ reverse new ≡ whole
-goals-step f fs old new whole e w =
-    ap (λ (xs : List TermId). goals_of fs ++ reverse xs) e
-    ∙ ap (λ (xs : List TermId). goals_of fs ++ xs) (reverse-append old (own_goals f) ∙ ap (λ (xs : List TermId). xs ++ reverse old) (own-reverse f))
-    ∙ sym (append_assoc (goals_of fs) (own_goals f) (reverse old))
-    ∙ w
 
 -- clauses, and a fault, that are judged
 abbrev pub good : List Assumption → Judged (List Assumption)

@@ -219,7 +219,7 @@ pub record AreFresh (old g : Graph) (depth : ℕ) (nodes : List TermId) (n : ℕ
 pub fresh-none : (g : Graph) (depth : ℕ) (nodes : List TermId) → nodes ≡ [] → AreFresh g g depth nodes 0
 fresh-none g depth nodes e = subst (λ (ts : List TermId). AreFresh g g depth ts 0) (sym e) (record { reads = refl; valid = tt; count = refl; depths = sym (append-nil g.depths) })
 
-length-replicate : (n d : ℕ) → length (replicate n d) ≡ n
+pub length-replicate : (n d : ℕ) → length (replicate n d) ≡ n
 length-replicate zero d = refl
 length-replicate (suc n) d = ap (λ k. suc k) (length-replicate n d)
 
@@ -269,18 +269,6 @@ instanced-more old g h r to terms done new i x t s w before e lt reads valid =
           ∙ before.reads;
       valid = subst (λ (ts : List TermId). AllValidAt h ts to) (sym e) (valid-append h to done (t ∷ []) (valid-grown_all g h to s w done before.valid) (valid, tt));
     })
-
-pub instanced-all : (old g : Graph) (r : Head → Term) (to : ℕ) (terms done : List TermId) (i : ℕ) → length terms ≤ i → IsInstanced old g r to terms done i → all_read g done ≡ map (fill r) (all_read old terms)
-instanced-all old g r to terms done i h w =
-    sym (append-nil (all_read g done))
-    ∙ ap (λ (ts : List TermId). all_read g done ++ map (fill r) (all_read old ts)) (sym (past terms i h))
-    ∙ w.reads
-  where
-    past : (ts : List TermId) (n : ℕ) → length ts ≤ n → drop n ts ≡ []
-    past [] zero l = refl
-    past [] (suc n) l = refl
-    past (t ∷ ts) zero l = absurd (let k : suc (length ts) ≤ 0 = l in omega (arith, k))
-    past (t ∷ ts) (suc n) l = past ts n (let k : suc (length ts) ≤ suc n = l in omega (arith, k))
 
 -- the arguments of a head over fresh variables
 pub head-instance : (old one two new : Graph) (a : Assumption) (depth next head : ℕ) (vs ts puts args : List TermId) → IsSound one → Grows old one [] [] → Grows one two [] [] → IsSound old → (d : ℕ) → IsValid old head d → AllValidAt one vs depth →

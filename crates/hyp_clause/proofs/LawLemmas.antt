@@ -1,5 +1,5 @@
 -- Hypothetical clauses under bindings, and in a heap that went back.
-use Rattle.std.proofs.Common.{◌≡◌, ℕ, ◌+◌, ◌-◌, ◌<◌, ◌≤◌, Bool, List, [], ◌∷◌, map, length, take, drop, refl, sym, ap, ap₂, ◌∙◌, arith, subst, length-drop}
+use Rattle.std.proofs.Common.{◌≡◌, ℕ, ◌+◌, ◌-◌, ◌<◌, ◌≤◌, ◌&&◌, Bool, List, [], ◌∷◌, map, length, take, drop, refl, sym, ap, ap₂, ◌∙◌, arith, subst, length-drop}
 use Rattle.std.proofs.lemmas.List.{take-append-drop}
 use Rattle.std.proofs.lemmas.Grind.{common_steps}
 use Rattle.ref_terms.specs.terms.Term.{Term}
@@ -15,11 +15,14 @@ use Rattle.level_terms.specs.Reading.{read}
 use Rattle.level_terms.specs.Sound.{AllMade}
 use Rattle.level_terms.specs.Undo.{undone, CanUndo}
 use Rattle.level_terms.specs.Valid.{IsValid, valid}
+use Rattle.level_terms.proofs.GroundLemmas.{ground_normal-undone}
+use Rattle.level_terms.proofs.ReadLemmas.{valid-below}
 use Rattle.level_terms.proofs.SoundLemmas.{valid-grown}
 use Rattle.beta_fragment.specs.Names.{names}
 use Rattle.beta_fragment.specs.HeadForm.{all_read, AllValidAt}
-use Rattle.hyp_clause.specs.Hyps.{assumption_in}
-use Rattle.hyp_clause.specs.Laws.{AllNodesBelow, BindingsReachAssumptions, UndoKeepsHyps}
+use Rattle.hyp_clause.specs.declared.hyp.Hyp.{Hyp}
+use Rattle.hyp_clause.specs.Hyps.{assumption_in, nodes_of, all_ground_normal}
+use Rattle.hyp_clause.specs.Laws.{AllNodesBelow, IsHypBelow, BindingsReachAssumptions, UndoKeepsHyps, ValidHypsAreBelow}
 
 abbrev Follow : (g h : Graph) → List Binding → Type 0
 Follow g h bs = (t depth : ℕ) → IsValid g t depth → read h t names ≡ bound bs (read g t names)
@@ -56,6 +59,16 @@ nodes-undone : (g : Graph) (m : HeapMark) (noted : List Change) (d : ℕ) (ts : 
 nodes-undone g m noted d [] c l v = tt
 nodes-undone g m noted d (t ∷ ts) c l v = (valid-undone g m noted t.index d c l.0 v.0, nodes-undone g m noted d ts c l.1 v.1)
 
+-- and as changeable as it was
+all-fixed_undone : (g : Graph) (m : HeapMark) (noted : List Change) (ts : List TermId) → CanUndo m g noted → AllNodesBelow m.nodes ts → all_ground_normal (undone m g) ts ≡ all_ground_normal g ts
+all-fixed_undone g m noted [] c l = refl
+all-fixed_undone g m noted (t ∷ ts) c l = ap₂ (λ (a b : Bool). a && b) (ground_normal-undone m g t.index c.within l.0) (all-fixed_undone g m noted ts c l.1)
+
+flag-undone : (g : Graph) (m : HeapMark) (noted : List Change) (x : Hyp) → CanUndo m g noted → IsHypBelow m.nodes x → all_ground_normal (undone m g) (nodes_of x) ≡ all_ground_normal g (nodes_of x)
+flag-undone g m noted x c l =
+    ap₂ (λ (a b : Bool). a && b) (ground_normal-undone m g x.head.index c.within l.head)
+    (ap₂ (λ (a b : Bool). a && b) (ground_normal-undone m g x.term.index c.within l.term) (all-fixed_undone g m noted x.body c l.body))
+
 pub hyps-undone : UndoKeepsHyps
 hyps-undone g m noted [] c l v = tt
 hyps-undone g m noted (x ∷ xs) c l v = (
@@ -63,6 +76,23 @@ hyps-undone g m noted (x ∷ xs) c l v = (
     head = valid-undone g m noted x.head.index (x.depth + x.pis) c l.0.head v.0.head;
     body = nodes-undone g m noted (x.depth + x.pis) x.body c l.0.body v.0.body;
     term = valid-undone g m noted x.term.index x.depth c l.0.term v.0.term;
+    flag = v.0.flag ∙ sym (flag-undone g m noted x c l.0);
   },
   hyps-undone g m noted xs c l.1 v.1,
+)
+
+-- what is valid is there
+all-below : (g : Graph) (d : ℕ) (ts : List TermId) → AllValidAt g ts d → AllNodesBelow (length g.nodes) ts
+all-below g d [] v = tt
+all-below g d (t ∷ ts) v = (valid-below g t.index d v.0, all-below g d ts v.1)
+
+pub hyps-below : ValidHypsAreBelow
+hyps-below g [] v = tt
+hyps-below g (x ∷ xs) v = (
+  record {
+    head = valid-below g x.head.index (x.depth + x.pis) v.0.head;
+    body = all-below g (x.depth + x.pis) x.body v.0.body;
+    term = valid-below g x.term.index x.depth v.0.term;
+  },
+  hyps-below g xs v.1,
 )

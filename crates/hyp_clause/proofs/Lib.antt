@@ -2,8 +2,11 @@ pub mod ReadAtLemmas
 pub mod NodeLemmas
 pub mod FormLemmas
 pub mod HypLemmas
+pub mod HeadedLemmas
+pub mod FixedLemmas
 pub mod PartLemmas
 pub mod WaitLemmas
 pub mod LawLemmas
 pub mod InstanceLemmas
+pub mod AtLemmas
 pub mod OkLemmas

@@ -53,6 +53,13 @@ list-valid : (g : Graph) (d : ℕ) (ts : List TermId) → AllValidAt g ts d → 
 list-valid g d [] w = refl
 list-valid g d (t ∷ ts) w = both_hold _ _ w.0 (list-valid g d ts w.1)
 
+-- a constant
+pub constant-reads : (g h : Graph) (c : Sym) (r : ℕ) → IsSound h → r ≡ length g.nodes → h ≡ record g { nodes = ConNode c ∷ g.nodes } → read h r names ≡ At (Con c.0)
+constant-reads g h c r s e made = nodes_read h r (ConNode c) names s names-places (made-there g h (ConNode c) r e made)
+
+pub constant-valid : (g h : Graph) (c : Sym) (r depth : ℕ) → IsSound h → r ≡ length g.nodes → h ≡ record g { nodes = ConNode c ∷ g.nodes } → IsValid h r depth
+constant-valid g h c r depth s e made = nodes_valid h r (ConNode c) depth s (made-there g h (ConNode c) r e made)
+
 -- a constant, and its application
 pub record IsConstantApplied (old one new : Graph) (c : Sym) (head r : TermId) (args : List TermId) (depth : ℕ) : Type 0 where
   pub sound : IsSound old

@@ -1,5 +1,5 @@
 -- Parts of a term that are read as clauses.
-use Rattle.std.proofs.Common.{◌≡◌, ℕ, suc, ◌+◌, ◌*◌, List, [], ◌∷◌, map, Bool, true, false, cond, nat_lt, Option, Some, None, refl, sym, ap, ap₂, ◌∙◌, arith, subst, append-nil}
+use Rattle.std.proofs.Common.{◌≡◌, ℕ, suc, ◌+◌, ◌*◌, List, [], ◌∷◌, map, Bool, true, false, cond, nat_lt, Option, Some, None, refl, sym, ap, ap₂, ◌∙◌, arith, subst, append-nil, length, length-append, ◌<◌}
 use mathlib.Core.Path.{fun_ext}
 use Rattle.ref_terms.specs.terms.Term as term
 use Rattle.ref_terms.specs.terms.Term.{Term, At}
@@ -19,10 +19,11 @@ use Rattle.level_terms.specs.declared.node.TermId.{TermId}
 use Rattle.level_terms.specs.Graph.{Graph}
 use Rattle.level_terms.specs.Growth.{Grows}
 use Rattle.level_terms.specs.Reading.{read}
-use Rattle.level_terms.specs.Sound.{IsSound}
+use Rattle.level_terms.specs.Sound.{IsSound, AllOlder}
+use Rattle.level_terms.proofs.ReadLemmas.{valid-below}
 use Rattle.level_terms.specs.Valid.{IsValid}
 use Rattle.beta_fragment.specs.Names.{names}
-use Rattle.beta_fragment.specs.HeadForm.{all_read, IsHeadForm, IsAbstraction}
+use Rattle.beta_fragment.specs.HeadForm.{AllValidAt, all_read, IsHeadForm, IsAbstraction}
 use Rattle.beta_fragment.proofs.HeadLemmas.{valid-grown_all, read-grown_all}
 use Rattle.std.proofs.lemmas.Bool.Decides.{nat_tests}
 use Rattle.ref_terms.specs.terms.Ready.{ready}
@@ -32,7 +33,7 @@ use Rattle.beta_fragment.specs.declared.answer.Whnf.TheVariants.{Lam, Rigid, Fle
 use Rattle.hyp_clause.specs.declared.hyp.Hyp.{Hyp}
 use Rattle.hyp_clause.specs.declared.forms.Form.TheVariants.{If, Implies, Pi}
 use Rattle.hyp_clause.specs.declared.reading.Word.TheVariants.{And as AndKind, If as IfKind, Implies as ImpliesKind, Pi as PiKind, Other, Free}
-use Rattle.hyp_clause.specs.Hyps.{assumption_in}
+use Rattle.hyp_clause.specs.Hyps.{assumption_in, all_ground_normal}
 use Rattle.hyp_clause.specs.inside.Words.{word_kind, fault_of_name, form_fault}
 use Rattle.hyp_clause.specs.inside.Forms.{goals_of, assumed_around, around}
 use Rattle.hyp_clause.specs.inside.Parts.{Task, Seen, kept, one, two, failed, part_term, both_of, conditional_of, implied_of, IsQuantified, IsClause, IsPart, IsHeadedPart, judged, size_of, IsTurnOf}
@@ -51,6 +52,19 @@ part-grown g h scope k s w p = record { term = valid-grown g h s w k.term.index 
 
 pub size-grown : (g h : Graph) (scope : ℕ) (k : Task) → IsSound g → Grows g h [] [] → IsPart g scope k → size_of h k ≡ size_of g k
 size-grown g h scope k s w p = ap (λ (u : Term). 1 + 2 * constants u) (reads-grown g h s w k.term.index (scope + k.pis) p.term)
+
+-- the nodes of a clause are there in a heap that grew
+older-grown : (g h : Graph) (t : ℕ) → Grows g h [] [] → t < length g.nodes → t < length h.nodes
+older-grown g h t w l = let e = ap length w.nodes ∙ length-append w.new_nodes g.nodes in omega arith
+
+all-older_grown : (g h : Graph) (d : ℕ) (ts : List TermId) → Grows g h [] [] → AllValidAt g ts d → AllOlder (length h.nodes) ts
+all-older_grown g h d [] w v = tt
+all-older_grown g h d (t ∷ ts) w v = (older-grown g h t.index w (valid-below g t.index d v.0), all-older_grown g h d ts w v.1)
+
+pub clause-older : (g h : Graph) (scope : ℕ) (k : Task) (t : TermId) (ts : List TermId) → Grows g h [] [] → IsPart g scope k → IsValid h t.index scope → ts ≡ goals_of k.forms → AllOlder (length h.nodes) (k.term ∷ t ∷ ts)
+clause-older g h scope k t ts w p v e =
+    let goals = all-older_grown g h (scope + k.pis) (goals_of k.forms) w (goals-valid g scope (scope + k.pis) k.forms p.forms) in
+    (older-grown g h k.term.index w (valid-below g k.term.index (scope + k.pis) p.term), (valid-below h t.index scope v, subst (AllOlder (length h.nodes)) (sym e) goals))
 
 -- no clause
 pub turn-failed : (g h : Graph) (scope : ℕ) (k : Task) (f : Fault) → judged g scope k ≡ Bad f → IsTurnOf g h scope k (failed f)
@@ -89,10 +103,6 @@ form-failed g scope depth k (Rigid (Level l) ts) f h e =
     go : (b : Bool) → judged_map (map (around g k.forms)) (cond b (Bad NotGoal) (Bad FlexClause)) ≡ Bad (cond b NotGoal FlexClause)
     go true = refl
     go false = refl
-
--- by the constant at the head
-pub form-headed : (g : Graph) (scope : ℕ) (k : Task) (c : Sym) (ts : List TermId) → IsPart g scope k → IsHeadForm g (scope + k.pis) (part_term g k) (Rigid (Con c) ts) → IsHeadedPart g scope k c ts
-form-headed g scope k c ts p h = record { part = p; args_valid = h.0; reads = h.1 }
 
 head-judged : (g : Graph) (scope : ℕ) (k : Task) (c : Sym) (args : List TermId) (o : Option Reserved) → IsHeadedPart g scope k c args → word_of c.0 ≡ o →
     judged g scope k ≡ judged_map (map (around g k.forms)) (clause_form (reader scope) scope k.pis c.0 o (all_read g args) (part_term g k))
@@ -241,12 +251,12 @@ turn-quantified g h scope k c (f ∷ b ∷ xs) s d grows w e q = subst (IsTurnOf
 
 -- an atom
 clause-part : (g h : Graph) (scope : ℕ) (k : Task) (c : Sym) (args : List TermId) (t : TermId) → IsSound g → Grows g h [] [] → IsHeadedPart g scope k c args → word_kind (word_of c.0) ≡ Free →
-    read h t.index names ≡ assumed_around g k.forms (part_term g k) → IsValid h t.index scope → IsTurnOf g h scope k (kept (record { pred = c; depth = scope; pis = k.pis; head = k.term; body = goals_of k.forms; term = t }))
+    read h t.index names ≡ assumed_around g k.forms (part_term g k) → IsValid h t.index scope → IsTurnOf g h scope k (kept (record { pred = c; depth = scope; pis = k.pis; head = k.term; body = goals_of k.forms; term = t; ground_normal = all_ground_normal h (k.term ∷ t ∷ goals_of k.forms) }))
 clause-part g h scope k c args t s grows w e reads valid =
     let head = reads-grown g h s grows k.term.index (scope + k.pis) w.part.term in
     let goals = goals-valid g scope (scope + k.pis) k.forms w.part.forms in
     let conditions = read-grown_all g h (scope + k.pis) s grows (goals_of k.forms) goals ∙ sym (append-nil (all_read g (goals_of k.forms))) in
-    let same : assumption_in h (record { pred = c; depth = scope; pis = k.pis; head = k.term; body = goals_of k.forms; term = t }) ≡ around g k.forms (atom_of scope k.pis c.0 (part_term g k)) =
+    let same : assumption_in h (record { pred = c; depth = scope; pis = k.pis; head = k.term; body = goals_of k.forms; term = t; ground_normal = all_ground_normal h (k.term ∷ t ∷ goals_of k.forms) }) ≡ around g k.forms (atom_of scope k.pis c.0 (part_term g k)) =
     λ i. record { pred = c.0; scope = scope; parameters = k.pis; head = head i; conditions = conditions i; assumed = reads i } in
     record {
       reads = ap (λ (x : Assumption). good (x ∷ [])) same
@@ -255,13 +265,15 @@ clause-part g h scope k c args t s grows w e reads valid =
         head = valid-grown g h s grows k.term.index (scope + k.pis) w.part.term;
         body = valid-grown_all g h (scope + k.pis) s grows (goals_of k.forms) goals;
         term = valid;
+        flag = refl;
       };
       smaller = omega arith;
     }
 
 pub turn-clause : (g h : Graph) (scope : ℕ) (k : Task) (c : Sym) (args : List TermId) (s : Seen) → IsSound g → Grows g h [] [] → IsHeadedPart g scope k c args → word_kind (word_of c.0) ≡ Free → IsClause g h scope k c s → IsTurnOf g h scope k s
 turn-clause g h scope k c args (kept x) d grows w e q =
-    let same : x ≡ record { pred = c; depth = scope; pis = k.pis; head = k.term; body = goals_of k.forms; term = x.term } = λ i. record { pred = q.0 i; depth = q.1 i; pis = q.2 i; head = q.3 i; body = q.4 i; term = x.term } in
+    let flag : x.ground_normal ≡ all_ground_normal h (k.term ∷ x.term ∷ goals_of k.forms) = q.7 ∙ ap₂ (λ (t : TermId) (ts : List TermId). all_ground_normal h (t ∷ x.term ∷ ts)) q.3 q.4 in
+    let same : x ≡ record { pred = c; depth = scope; pis = k.pis; head = k.term; body = goals_of k.forms; term = x.term; ground_normal = all_ground_normal h (k.term ∷ x.term ∷ goals_of k.forms) } = λ i. record { pred = q.0 i; depth = q.1 i; pis = q.2 i; head = q.3 i; body = q.4 i; term = x.term; ground_normal = flag i } in
     subst (λ (y : Hyp). IsTurnOf g h scope k (kept y)) (sym same) (clause-part g h scope k c args x.term d grows w e q.5 q.6)
 turn-clause g h scope k c args (one l) d grows w e q = absurd q
 turn-clause g h scope k c args (two l m) d grows w e q = absurd q

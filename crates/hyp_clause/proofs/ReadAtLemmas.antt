@@ -101,7 +101,7 @@ spine-constants (App f a) c e =
     let m = total-append (args_of f) (a ∷ []) in
     omega arith
 
-headed-constant : (o : Option Head) (xs ts : List Term) (c : ℕ) → headed 0 o xs ≡ Rigid (Con c) ts → (o ≡ Some (Con c)) × (xs ≡ ts)
+pub headed-constant : (o : Option Head) (xs ts : List Term) (c : ℕ) → headed 0 o xs ≡ Rigid (Con c) ts → (o ≡ Some (Con c)) × (xs ≡ ts)
 headed-constant None xs ts c e = absurd (let z : RedexShape ≡ Rigid (Con c) ts = e in cc)
 headed-constant (Some (Con d)) xs ts c e = let z : Rigid (Con d) xs ≡ Rigid (Con c) ts = e in (cc, cc)
 headed-constant (Some (Int d)) xs ts c e = absurd (let z : Rigid (Int d) xs ≡ Rigid (Con c) ts = e in cc)

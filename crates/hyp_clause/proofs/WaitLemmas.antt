@@ -1,5 +1,5 @@
 -- Parts that wait.
-use Rattle.std.proofs.Common.{◌≡◌, ℕ, ◌+◌, ◌<◌, List, [], ◌∷◌, ◌++◌, map, reverse, refl, sym, ap, ap₂, ◌∙◌, arith, subst, append-nil, append_assoc}
+use Rattle.std.proofs.Common.{◌≡◌, ℕ, ◌+◌, List, [], ◌∷◌, ◌++◌, map, reverse, refl, sym, ap, ap₂, ◌∙◌, arith, subst, append-nil, append_assoc}
 use Rattle.std.proofs.lemmas.List.{map-append, reverse-append}
 use Rattle.ref_terms.specs.search.Fault.{Judged, Good, Bad, judged_append, judged_map}
 use Rattle.ref_terms.specs.search.Assumption.{Assumption, assumptions_of}
@@ -95,9 +95,6 @@ refused g h scope k hs ks x (Fault f) t e =
     ap (λ (j : Judged (List Assumption)). judged_append (Good (map (assumption_in g) hs)) (judged_append j (all_judged g scope ks))) (sym bad)
 
 -- the loop
-pub on-then : (f g h : Graph) (scope : ℕ) (hs hs' : List Hyp) (k : Task) (old ks ks' : List Task) (j : Judged (List Assumption)) → old ≡ k ∷ ks → whole g scope hs old ≡ j → GoesOn g h scope hs (k ∷ ks) hs' ks' → whole h scope hs' ks' ≡ j
-on-then f g h scope hs hs' k old ks ks' j e r w = w.reads ∙ ap (whole g scope hs) (sym e) ∙ r
-
 pub all-read : (g : Graph) (scope : ℕ) (hs : List Hyp) (ks : List Task) (j : Judged (List Assumption)) → ks ≡ [] → whole g scope hs ks ≡ j → Good (map (assumption_in g) hs) ≡ j
 all-read g scope hs ks j e r = ap good (sym (append-nil (map (assumption_in g) hs))) ∙ ap (whole g scope hs) (sym e) ∙ r
 
@@ -111,9 +108,6 @@ parts-taken g scope old ps p e w = subst (AreParts g scope) (waiting-taken old p
 -- the loop goes on
 pub whole-kept : (g h : Graph) (scope : ℕ) (hs hs' : List Hyp) (old ps : List Part) (p : Part) (ks' : List Task) (j : Judged (List Assumption)) → old ≡ ps ++ p ∷ [] → whole g scope hs (waiting old) ≡ j → GoesOn g h scope hs (task_of p ∷ waiting ps) hs' ks' → whole h scope hs' ks' ≡ j
 whole-kept g h scope hs hs' old ps p ks' j e r w = w.reads ∙ ap (whole g scope hs) (sym (waiting-taken old ps p e)) ∙ r
-
-pub sizes-fall : (g h : Graph) (scope : ℕ) (hs hs' : List Hyp) (old ps : List Part) (p : Part) (ks' : List Task) → old ≡ ps ++ p ∷ [] → GoesOn g h scope hs (task_of p ∷ waiting ps) hs' ks' → sizes h ks' < sizes g (waiting old)
-sizes-fall g h scope hs hs' old ps p ks' e w = subst (λ (ks : List Task). sizes h ks' < sizes g ks) (sym (waiting-taken old ps p e)) w.smaller
 
 pub fault-kept : (g : Graph) (scope : ℕ) (hs : List Hyp) (old ps : List Part) (p : Part) (j : Judged (List Assumption)) (stop : HypStop) → old ≡ ps ++ p ∷ [] → whole g scope hs (waiting old) ≡ j → IsHypFault stop (whole g scope hs (task_of p ∷ waiting ps)) → IsHypFault stop j
 fault-kept g scope hs old ps p j stop e r f = subst (IsHypFault stop) (ap (whole g scope hs) (sym (waiting-taken old ps p e)) ∙ r) f

@@ -1,5 +1,5 @@
 -- What the laws on hypothetical clauses say.
-use Rattle.std.specs.Prelude.{◌≡◌, ℕ, ◌<◌, List, [], ◌∷◌, map}
+use Rattle.std.specs.Prelude.{◌≡◌, ℕ, ◌<◌, List, [], ◌∷◌, map, length}
 use Rattle.ref_terms.specs.unification.Problem.{Binding}
 use Rattle.ref_terms.specs.search.Branch.{bound, bound_assumption}
 use Rattle.level_terms.specs.declared.node.TermId.{TermId}
@@ -43,6 +43,10 @@ pub record IsHypBelow (n : ℕ) (h : Hyp) : Type 0 where
 abbrev pub AllHypsBelow : ℕ → List Hyp → Type 0
 AllHypsBelow n [] = Unit {0}
 AllHypsBelow n (h ∷ hs) = IsHypBelow n h × AllHypsBelow n hs
+
+-- the nodes of valid clauses are there
+abbrev pub ValidHypsAreBelow : Type 0
+ValidHypsAreBelow = (g : Graph) (xs : List Hyp) → AllHypsValid g xs → AllHypsBelow (length g.nodes) xs
 
 -- undoing to a mark leaves those valid that were made before it
 abbrev pub UndoKeepsHyps : Type 0

@@ -7,7 +7,7 @@ ghost use Rattle.level_terms.specs.Growth.{Grows};
 ghost use Rattle.ref_terms.specs.search.Assumption.{assumptions_of};
 ghost use Rattle.ref_terms.specs.search.Fault.{Good};
 ghost use Rattle.beta_fragment.specs.Names.{names};
-ghost use Rattle.hyp_clause.specs.Hyps.{assumption_in, AllHypsValid, IsHypFault};
+ghost use Rattle.hyp_clause.specs.Hyps.{assumption_in, AllHypsValid, AllAtDepth, IsHypFault};
 ghost use Rattle.hyp_clause.specs.inside.Parts.{task_of, seen, IsPart};
 ghost use Rattle.hyp_clause.specs.inside.Waiting.{waiting, whole, AreParts, IsTaken, IsRefused, GoesOn};
 
@@ -31,6 +31,7 @@ pub fn compile_hyp(alloc: Global, heap: &mut Heap, t: TermId, depth: usize) -> R
     requires { IsValid heap.old t.index depth }
     ensures clauses { IfOk result (λ hs. Good (map (assumption_in heap.new) hs) ≡ assumptions_of depth (read heap.old t.index names)) }
     ensures valid { IfOk result (λ hs. AllHypsValid heap.new hs) }
+    ensures depth { IfOk result (λ hs. AllAtDepth depth hs) }
     ensures fault { IfErr result (λ stop. IsHypFault stop (assumptions_of depth (read heap.old t.index names))) }
     ensures variables { heap.new.depths ≡ heap.old.depths }
     ensures grows { Grows heap.old heap.new [] [] }

@@ -20,6 +20,9 @@ pub struct Hyp {
     pub body: TermIds,
     /// The term that was assumed, with its `pi`s and conditions around this head alone.
     pub term: TermId,
+    /// Whether neither a variable nor an applied abstraction stands in these nodes. Then they read
+    /// the same whatever is assigned.
+    pub ground_normal: bool,
 }
 
 /// A list of hypothetical clauses.
@@ -37,6 +40,15 @@ pub struct HypInstance {
     pub args: Vec<TermId>,
     /// The depth of the call.
     pub depth: usize,
+}
+
+/// A hypothetical clause at the names of a call, with its conditions, over variables that are new.
+#[derive(Drop)]
+pub struct HypAt {
+    /// The arguments of the head.
+    pub args: Vec<TermId>,
+    /// The conditions, outer ones first.
+    pub body: Vec<TermId>,
 }
 
 /// Why a term is read as no list of hypothetical clauses.

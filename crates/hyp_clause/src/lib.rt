@@ -2,7 +2,9 @@
 #![tactic(auto)]
 
 mod around;
+mod at;
 mod compile;
+mod fixed;
 mod forms;
 mod hyp;
 mod instance;
@@ -11,7 +13,8 @@ mod making;
 mod part;
 mod reading;
 
+pub use at::hyp_at;
 pub use compile::compile_hyp;
-pub use hyp::{Hyp, HypInstance, HypStop, Hyps};
+pub use hyp::{Hyp, HypAt, HypInstance, HypStop, Hyps};
 pub use instance::{hyp_body_of, hyp_head_of};
-pub use making::constant_applied;
+pub use making::{constant, constant_applied};

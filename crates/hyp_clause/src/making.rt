@@ -1,6 +1,6 @@
 //! Nodes of the forms around a clause.
 
-ghost use Rattle.std.specs.Prelude.{◌≡◌, ◌+◌, ◌<◌, [], length, IfOk};
+ghost use Rattle.std.specs.Prelude.{◌≡◌, ℕ, ◌+◌, ◌<◌, [], length, IfOk};
 ghost use Rattle.level_terms.specs.Valid.{IsValid};
 ghost use Rattle.level_terms.specs.Reading.{read};
 ghost use Rattle.level_terms.specs.Growth.{Grows};
@@ -13,6 +13,19 @@ ghost use Rattle.beta_fragment.specs.HeadForm.{all_read, AllValidAt};
 use level_terms::{Heap, TermId};
 use ref_terms::Sym;
 use std::alloc::AllocError;
+
+/// The node of a constant. Answers `AllocError` on want of memory alone.
+pub fn constant(heap: &mut Heap, c: Sym) -> Result<TermId, AllocError>
+    ensures reads { IfOk result (λ r. read heap.new r.index names ≡ At (Con c.0)) }
+    ensures valid { IfOk result (λ r. (depth : ℕ) → IsValid heap.new r.index depth) }
+    ensures variables { heap.new.depths ≡ heap.old.depths }
+    ensures grows { Grows heap.old heap.new [] [] }
+{
+    heap.is_sound();
+    let r = heap.con(c)?;
+    heap.is_sound();
+    Ok(r)
+}
 
 /// A constant applied to one argument or more, which are valid at a depth. Answers `AllocError` on
 /// want of memory alone.

@@ -14,6 +14,7 @@ ghost use Rattle.hyp_clause.specs.inside.Words.{fault_of_name, form_fault};
 ghost use Rattle.hyp_clause.specs.inside.Parts.{task_of, seen, inside, both_of, conditional_of, implied_of, IsQuantified, IsClause, IsPart, IsHeadedPart, IsTurnOf};
 
 use crate::around::{assumed_by, conditions_of};
+use crate::fixed::are_all_fixed;
 use crate::forms::Form;
 use crate::hyp::Hyp;
 use crate::part::{Part, Turn};
@@ -271,6 +272,7 @@ fn clause(
     let body = conditions_of(alloc, &part.around)?;
     let under = depth.checked_add(part.pis).ok_or(AllocError)?;
     let term = assumed_by(heap, &part.around, part.term, under, depth)?;
+    let ground_normal = are_all_fixed(heap, part.term, term, body.as_slice());
     Ok(Turn::Clause(Hyp {
         pred: c,
         depth,
@@ -278,5 +280,6 @@ fn clause(
         head: part.term,
         body,
         term,
+        ground_normal,
     }))
 }

@@ -1,10 +1,9 @@
 -- Tables by digits.
-use Rattle.std.proofs.Common.{◌≡◌, ℕ, ◌<◌, ◌-◌, ◌/◌, ◌%◌, ◌&&◌, Bool, true, false, not, List, [], ◌∷◌, cond, nat_eq, filter, refl, sym, ap, ◌∙◌, arith, ne_eqb, eqb-true, eq-eqb, subst}
+use Rattle.std.proofs.Common.{◌≡◌, ℕ, ◌<◌, ◌%◌, ◌&&◌, Bool, true, false, not, List, ◌∷◌, cond, nat_eq, refl, sym, ap, ◌∙◌, arith, ne_eqb, eqb-true, eq-eqb, subst}
 use Rattle.std.proofs.lemmas.Bool.Decides.{nat_tests}
 use Rattle.hyp_clause.specs.declared.hyp.Hyp.{Hyp}
 use Rattle.hyp_context.specs.declared.table.Table.{Table}
 use Rattle.hyp_context.specs.declared.table.Lists.{Lists}
-use Rattle.hyp_context.specs.inside.Items.{items_of}
 use Rattle.hyp_context.specs.inside.Found.{found_in, found_at, halved, same_digit, by_digit, HasOneMore, IsTable}
 
 and_left : (a b : Bool) → (a && b) ≡ true → a ≡ true

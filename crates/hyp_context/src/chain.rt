@@ -1,6 +1,6 @@
 //! A list whose tails are shared.
 
-ghost use Rattle.std.specs.Prelude.{◌≡◌, ◌∷◌, [], IfOk};
+ghost use Rattle.std.specs.Prelude.{◌≡◌, ◌∷◌, [], cond, not, IfOk};
 ghost use Rattle.hyp_context.specs.inside.Items.{items_of};
 
 use hyp_clause::Hyp;
@@ -56,5 +56,16 @@ impl Chain {
     {
         let entry = Rc::new(alloc, Entry { hyp, older: self })?;
         Ok(Chain::Link(entry))
+    }
+
+    /// The list with this one in front if something in it can change.
+    pub fn with_changeable(&self, alloc: Global, hyp: &Rc<Hyp>) -> Result<Chain, AllocError>
+        ensures { IfOk result (λ c. items_of c ≡ cond (not hyp.now.value.ground_normal) (hyp.now.value ∷ items_of self.now) (items_of self.now)) }
+    {
+        if hyp.ground_normal {
+            return self.copy();
+        }
+        let list = self.copy()?.with(alloc, hyp.clone()?)?;
+        Ok(list)
     }
 }

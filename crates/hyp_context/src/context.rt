@@ -1,10 +1,10 @@
 //! Contexts.
 
 ghost use Rattle.std.specs.Prelude.{◌≡◌, ◌≢◌, ◌∷◌, ◌++◌, [], length, IfOk, IfSome, IfNone, MatchOption};
-ghost use Rattle.hyp_context.specs.Contexts.{hyps_for};
+ghost use Rattle.hyp_context.specs.Contexts.{hyps_for, changeable_hyps};
 
 use crate::chain::Chain;
-use crate::table::Table;
+use crate::parts::Parts;
 use hyp_clause::{Hyp, Hyps};
 use ref_terms::Sym;
 use std::alloc::{AllocError, Global};
@@ -15,22 +15,17 @@ use std::rc::Rc;
 #[derive(Drop)]
 pub struct Context {
     alloc: Global,
-    all: Chain,
-    count: usize,
-    by_pred: Table,
+    parts: Option<Rc<Parts>>,
 }
 
 impl Model for Context {
-    ghost use Rattle.std.specs.Prelude.{List};
+    ghost use Rattle.std.specs.Prelude.{List, []};
+    ghost use Rattle.std.specs.Option.{option_map_or};
     ghost use Rattle.hyp_clause.specs.declared.hyp.Hyp.{Hyp};
 
     ghost Value = { List Hyp };
 
-    ghost use Rattle.hyp_context.specs.inside.View.{hyps_of, IsKept};
-
-    ghost view = { hyps_of };
-
-    ghost invariant = { IsKept };
+    ghost view = { λ c. option_map_or (λ p. p.value) c.parts [] };
 }
 
 impl Context {
@@ -38,12 +33,7 @@ impl Context {
     pub fn empty(alloc: Global) -> Context
         ensures { result ≡ [] }
     {
-        Context {
-            alloc,
-            all: Chain::End,
-            count: 0,
-            by_pred: Table::Empty,
-        }
+        Context { alloc, parts: None }
     }
 
     /// The same assumptions, in constant time and without new memory. Answers `AllocError` where so
@@ -51,12 +41,29 @@ impl Context {
     pub fn copy(&self) -> Result<Context, AllocError>
         ensures { IfOk result (λ c. c ≡ self.now) }
     {
-        Ok(Context {
-            alloc: self.alloc,
-            all: self.all.copy()?,
-            count: self.count,
-            by_pred: self.by_pred.copy()?,
-        })
+        match &self.parts {
+            None => Ok(Context {
+                alloc: self.alloc,
+                parts: None,
+            }),
+            Some(parts) => {
+                let parts = parts.clone()?;
+                Ok(Context {
+                    alloc: self.alloc,
+                    parts: Some(parts),
+                })
+            }
+        }
+    }
+
+    /// The lists of the context, in constant time.
+    fn lists(&self) -> Result<Parts, AllocError>
+        ensures { IfOk result (λ p. p ≡ self.now) }
+    {
+        match &self.parts {
+            None => Ok(Parts::empty()),
+            Some(parts) => parts.copy(),
+        }
     }
 
     /// The context with these assumptions in front. For each it takes the time and the memory of the
@@ -65,28 +72,15 @@ impl Context {
     pub fn assume(context: &Context, hyps: Hyps) -> Result<Context, AllocError>
         ensures { IfOk result (λ c. c ≡ hyps ++ context.now) }
     {
-        let mut result = context.copy()?;
+        let mut parts = context.lists()?;
         let mut left = hyps.into_vec();
         while let Some(hyp) = left.pop() {
-            result = result.with(hyp)?;
+            parts = parts.with(context.alloc, hyp)?;
         }
-        Ok(result)
-    }
-
-    /// The context with this assumption in front.
-    fn with(&self, hyp: Hyp) -> Result<Context, AllocError>
-        ensures { IfOk result (λ c. c ≡ hyp ∷ self.now) }
-    {
-        let count = self.count.checked_add(1).ok_or(AllocError)?;
-        let pred = hyp.pred;
-        let hyp = Rc::new(self.alloc, hyp)?;
-        let by_pred = self.by_pred.with(self.alloc, pred.0, &hyp)?;
-        let all = self.all.copy()?.with(self.alloc, hyp)?;
+        let parts = Rc::new(context.alloc, parts)?;
         Ok(Context {
-            alloc: self.alloc,
-            all,
-            count,
-            by_pred,
+            alloc: context.alloc,
+            parts: Some(parts),
         })
     }
 
@@ -94,15 +88,34 @@ impl Context {
     pub fn len(&self) -> usize
         ensures { result ≡ length self.now }
     {
-        self.count
+        match &self.parts {
+            None => 0,
+            Some(parts) => parts.len(),
+        }
     }
 
     /// All assumptions. Takes no memory.
     pub fn iter(&self) -> HypIter<'_>
         ensures { result ≡ self.now }
     {
-        HypIter {
-            rest: Some(&self.all),
+        match &self.parts {
+            None => HypIter { rest: None },
+            Some(parts) => HypIter {
+                rest: Some(parts.all()),
+            },
+        }
+    }
+
+    /// Those in which something can change, since a variable or an applied abstraction stands in them;
+    /// no other is looked at. Takes no memory.
+    pub fn changeable(&self) -> HypIter<'_>
+        ensures { result ≡ changeable_hyps self.now }
+    {
+        match &self.parts {
+            None => HypIter { rest: None },
+            Some(parts) => HypIter {
+                rest: Some(parts.changeable()),
+            },
         }
     }
 
@@ -111,8 +124,11 @@ impl Context {
     pub fn for_pred(&self, pred: Sym) -> HypIter<'_>
         ensures { result ≡ hyps_for pred.0 self.now }
     {
-        HypIter {
-            rest: self.by_pred.find(pred.0),
+        match &self.parts {
+            None => HypIter { rest: None },
+            Some(parts) => HypIter {
+                rest: parts.find(pred),
+            },
         }
     }
 }

@@ -8,6 +8,8 @@
 mod chain;
 mod context;
 pub mod laws;
+mod list;
+mod parts;
 mod table;
 
 pub use context::{Context, HypIter, HypTail};

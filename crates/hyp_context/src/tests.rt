@@ -14,6 +14,7 @@ fn hyp(alloc: Global, pred: usize, depth: usize) -> Hyp {
         head: TermId { index: 0 },
         body: TermIds::new(alloc),
         term: TermId { index: 0 },
+        ground_normal: pred == 7,
     }
 }
 
@@ -48,6 +49,7 @@ fn goes_by_predicates(rt: HostRuntime) -> Result<(), Fail> {
     assert_eq!(rt; count(context.for_pred(Sym(0))), 4);
     assert_eq!(rt; count(context.for_pred(Sym(7))), 1);
     assert_eq!(rt; count(older.for_pred(Sym(7))), 0);
+    assert_eq!(rt; count(context.changeable()), 10);
     match context.for_pred(Sym(1)).next() {
         Some(h) => assert_eq!(rt; h.depth, 7),
         None => assert!(rt; false),

@@ -20,7 +20,7 @@ use Rattle.hyp_clause.specs.declared.forms.Form.TheVariants.{If, Implies, Pi}
 use Rattle.hyp_clause.specs.declared.part.Part.{Part}
 use Rattle.hyp_clause.specs.declared.part.Turn.{Turn}
 use Rattle.hyp_clause.specs.declared.part.Turn.TheVariants.{Clause, One, Both, Failed}
-use Rattle.hyp_clause.specs.Hyps.{assumption_in, IsHypValid}
+use Rattle.hyp_clause.specs.Hyps.{assumption_in, nodes_of, all_ground_normal, IsHypValid}
 use Rattle.hyp_clause.specs.inside.Forms.{forms_of, goals_of, around, assumed_around, AreFormsAt}
 
 -- a part, with the forms around it innermost first
@@ -123,5 +123,5 @@ IsQuantified g h scope k _ s = s ≡ failed NotGoal
 
 -- an atom: the clause with the forms around it
 abbrev pub IsClause : (g h : Graph) → (scope : ℕ) → Task → Sym → Seen → Type 0
-IsClause g h scope k c (kept x) = (x.pred ≡ c) × (x.depth ≡ scope) × (x.pis ≡ k.pis) × (x.head ≡ k.term) × (x.body ≡ goals_of k.forms) × (read h x.term.index names ≡ assumed_around g k.forms (part_term g k)) × IsValid h x.term.index scope
+IsClause g h scope k c (kept x) = (x.pred ≡ c) × (x.depth ≡ scope) × (x.pis ≡ k.pis) × (x.head ≡ k.term) × (x.body ≡ goals_of k.forms) × (read h x.term.index names ≡ assumed_around g k.forms (part_term g k)) × IsValid h x.term.index scope × (x.ground_normal ≡ all_ground_normal h (nodes_of x))
 IsClause g h scope k c _ = ⊥

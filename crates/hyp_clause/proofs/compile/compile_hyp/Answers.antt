@@ -1,13 +1,14 @@
-use Rattle.std.proofs.Common.{◌≡◌, ◌∙◌, ◌∷◌, List, [], refl, sym, ap, ap₂, subst}
+use Rattle.std.proofs.Common.{rules, map, ◌≡◌, ◌∙◌, ◌∷◌, List, [], refl, sym, ap, ap₂, subst}
 use Rattle.ref_terms.specs.search.Assumption.{assumptions_of}
 use Rattle.level_terms.specs.Reading.{read}
 use Rattle.level_terms.proofs.GrowthLemmas.{grows-refl, grows-trans}
 use Rattle.beta_fragment.specs.Names.{names}
 use Rattle.hyp_clause.specs.declared.part.Part.{Part}
-use Rattle.hyp_clause.specs.Hyps.{AllHypsValid}
+use Rattle.hyp_clause.specs.Hyps.{assumption_in, AllHypsValid}
 use Rattle.hyp_clause.specs.inside.Parts.{Task}
 use Rattle.hyp_clause.specs.inside.Waiting.{waiting, whole, AreParts}
-use Rattle.hyp_clause.proofs.WaitLemmas.{whole-first, first-part, parts-taken, whole-kept, fault-kept}
+use Rattle.hyp_clause.proofs.WaitLemmas.{all-read, whole-first, first-part, parts-taken, whole-kept, fault-kept}
+use Rattle.hyp_clause.proofs.HeadedLemmas.{assumed-scoped, all-at_depth}
 use Rattle.hyp_clause.proofs.compile.compile_hyp.Goals as goal
 
 pub returns-in_err-add-clause-grows : goal.returns-in_err-add-clause-grows
@@ -48,3 +49,10 @@ returns-in-Err-clause-fault c =
 
 pub returns-in-Err-clause-grows : goal.returns-in-Err-clause-grows
 returns-in-Err-clause-grows c = grows-trans c.args.heap.now c.loop-part.heap c.step.new.heap [] [] [] c.loop-part.invariant.grows c.step.ensures.grows
+
+pub returns-clause-depth : goal.returns-clause-depth
+returns-clause-depth c =
+    let none : waiting c.loop-part.parts.items ≡ [] = search rules in
+    let t = read c.args.heap.now c.args.t.index names in
+    let reads = all-read c.loop-part.heap c.args.depth c.loop-part.hyps (waiting c.loop-part.parts.items) (assumptions_of c.args.depth t) none c.loop-part.invariant.reads in
+    all-at_depth c.loop-part.heap c.args.depth c.loop-part.hyps (assumed-scoped c.args.depth t (map (assumption_in c.loop-part.heap) c.loop-part.hyps) (sym reads))
