@@ -2,7 +2,6 @@
 use Rattle.std.proofs.Common.{◌≡◌, ℕ, suc, ◌<◌, Bool, true, false, cond, ◌||◌, ◌&&◌, nat_eq, List, [], ◌∷◌, ◌++◌, map, length, Option, Some, None, refl, sym, ap, ◌∙◌, subst, arith, option_map, eqb-true, not}
 use Rattle.std.specs.Prelude.{unwrap_or}
 use Rattle.std.specs.Option.{option_map_or}
-use Rattle.std.proofs.lemmas.Bool.{ltb-true}
 use Rattle.std.proofs.lemmas.List.{map-append, length-map}
 use Rattle.ref_terms.specs.terms.Term as term
 use Rattle.ref_terms.specs.terms.Term.{Term, Head, At, App}
@@ -13,7 +12,8 @@ use Rattle.ref_terms.specs.unification.Problem.{Equation, Problem, Clashed, Solv
 use Rattle.ref_terms.specs.unification.Rules.{head_eq, equations_of, rule, step, step_at}
 use Rattle.ref_terms.specs.unification.Unification.{unify}
 use Rattle.ref_terms.proofs.unification.Steps.{unify-ends}
-use Rattle.ref_terms.proofs.unification.HeadLemmas.{is_rigid, RigidStay, apply_headed, rigid-head}
+use Rattle.ref_terms.proofs.unification.HeadLemmas.{apply_headed}
+use Rattle.ref_terms.specs.terms.Apply.{fill}
 use Rattle.ref_terms.specs.search.Program.{Program, Clause, modes_of, headed_by, is_constant, constant_of}
 use Rattle.ref_terms.specs.search.Branch.{Goal, Branch, bound_equation}
 use Rattle.ref_terms.specs.search.Instance.{ClauseInstance, clause_instance, instance, fresh_for_variable}
@@ -74,32 +74,36 @@ heads-differ (term.Bound a) k f g e = absurd (let z : true ≡ false = f in cc)
 heads-differ (term.Var a) k f g e = absurd (let z : true ≡ false = f in cc)
 
 -- fresh variables leave rigid heads alone
-fresh-stay : (names next : ℕ) → RigidStay 0 (fresh_for_variable names next)
-fresh-stay names next (term.Var v) e = absurd (let z : v < 0 = ltb-true v 0 e in omega (arith, z))
+fresh-stay : (names next : ℕ) (h : Head) → fits_every (key_of_head h) ≡ false → fresh_for_variable names next h ≡ At h
+fresh-stay names next (term.Var v) e = absurd (let z : true ≡ false = e in cc)
 fresh-stay names next (term.Con c) e = refl
 fresh-stay names next (term.Int c) e = refl
 fresh-stay names next (term.Str c) e = refl
 fresh-stay names next (term.Name c) e = refl
 fresh-stay names next (term.Bound c) e = refl
 
-firm-rigid : (h : Head) → fits_every (key_of_head h) ≡ false → is_rigid 0 h ≡ true
-firm-rigid (term.Con c) e = refl
-firm-rigid (term.Int c) e = refl
-firm-rigid (term.Str c) e = refl
-firm-rigid (term.Name c) e = refl
-firm-rigid (term.Bound c) e = refl
-firm-rigid (term.Var c) e = absurd (let z : true ≡ false = e in cc)
+-- a head that is left alone stays at the head, before the same arguments, each filled
+module _ (r : Head → Term) (h : Head) (stays : r h ≡ At h) where
+  pub filled-head : (t : Term) → head_of t ≡ Some h → head_of (fill r t) ≡ Some h
+  filled-head (term.Lam b) e = absurd (let k : None ≡ Some h = e in cc)
+  filled-head (At k) e =
+      let same : h ≡ k = let z : Some k ≡ Some h = e in cc in
+      ap head_of (subst (λ q. r q ≡ At q) same stays) ∙ e
+  filled-head (App f a) e = let i = filled-head f e in ap head_of (apply_headed (fill r f) (fill r a) h i) ∙ i
+
+  pub filled-args : (t : Term) → head_of t ≡ Some h → args_of (fill r t) ≡ map (fill r) (args_of t)
+  filled-args (term.Lam b) e = absurd (let k : None ≡ Some h = e in cc)
+  filled-args (At k) e =
+      let same : h ≡ k = let z : Some k ≡ Some h = e in cc in
+      ap args_of (subst (λ q. r q ≡ At q) same stays)
+  filled-args (App f a) e =
+      ap args_of (apply_headed (fill r f) (fill r a) h (filled-head f e))
+      ∙ ap (λ (xs : List Term). xs ++ fill r a ∷ []) (filled-args f e)
+      ∙ sym (map-append (fill r) (args_of f) (a ∷ []))
 
 -- the arguments of a clause's instance are those of the clause, each at the instance
 pub instance-args : (names next c : ℕ) (t : Term) → head_of t ≡ Some (term.Con c) → args_of (instance names next t) ≡ map (instance names next) (args_of t)
-instance-args names next c (term.Lam b) e = absurd (let k : None ≡ Some (term.Con c) = e in cc)
-instance-args names next c (At h) e =
-    let same : h ≡ term.Con c = let z : Some h ≡ Some (term.Con c) = e in cc in ap (λ k. args_of (fresh_for_variable names next k)) same
-instance-args names next c (App f a) e =
-    let i = rigid-head 0 (fresh_for_variable names next) (fresh-stay names next) f (term.Con c) refl e in
-    ap args_of (apply_headed (instance names next f) (instance names next a) (term.Con c) i)
-    ∙ ap (λ (xs : List Term). xs ++ instance names next a ∷ []) (instance-args names next c f e)
-    ∙ sym (map-append (instance names next) (args_of f) (a ∷ []))
+instance-args names next c t e = filled-args (fresh_for_variable names next) (term.Con c) refl t e
 
 -- the step of two rigid heads that differ
 stepped : (m : ℕ) (p : Problem) (e : Equation) (rest : List Equation) (h : Head) (xs : List Term) (k : Head) (ys : List Term) → p.equations ≡ e ∷ rest → shape m e.left ≡ shape.Rigid h xs → shape m e.right ≡ shape.Rigid k ys → head_eq h k ≡ false
@@ -116,18 +120,22 @@ nothing : (m v : ℕ) → step m (record { next_var = v; equations = []; binding
 unfolding step
 nothing m v = refl
 
--- equations that begin with one of two terms whose keys differ, the clause's at fresh variables
-pub clashing : (m next names n : ℕ) (s t : Term) (v : ℕ) (rest : List Equation) → Differ (key_of t) (key_of s)
-    → unify m (record { next_var = v; equations = record { names = n; left = instance names next s; right = t } ∷ rest; bindings = [] }) ≡ Clashed false
-clashing m next names n s t v rest d =
+-- the head that has this key is left alone
+abbrev pub StaysAt : (Head → Term) → Key → Type 0
+StaysAt r k = (h : Head) → k ≡ key_of_head h → r h ≡ At h
+
+-- equations that begin with one of two terms whose keys differ, the clause's with its head left alone
+pub clashing : (r : Head → Term) (m n : ℕ) (s t : Term) (v : ℕ) (rest : List Equation) → StaysAt r (key_of s) → Differ (key_of t) (key_of s)
+    → unify m (record { next_var = v; equations = record { names = n; left = fill r s; right = t } ∷ rest; bindings = [] }) ≡ Clashed false
+clashing r m n s t v rest stays d =
     let hs = has-head s d.clause_firm in
     let ht = has-head t d.goal_firm in
     let fs : fits_every (key_of_head hs.head) ≡ false = ap fits_every (sym hs.key) ∙ d.clause_firm in
     let ft : fits_every (key_of_head ht.head) ≡ false = ap fits_every (sym ht.key) ∙ d.goal_firm in
-    let left = firm-shape m (instance names next s) hs.head (rigid-head 0 (fresh_for_variable names next) (fresh-stay names next) s hs.head (firm-rigid hs.head fs) hs.is) fs in
+    let left = firm-shape m (fill r s) hs.head (filled-head r hs.head (stays hs.head hs.key) s hs.is) fs in
     let right = firm-shape m t ht.head ht.is ft in
     let differ : head_eq hs.head ht.head ≡ false = heads-differ hs.head ht.head fs ft (ap (same_key (key_of_head hs.head)) (sym ht.key) ∙ ap (λ k. same_key k (key_of t)) (sym hs.key) ∙ d.differ) in
-    let e : Equation = record { names = n; left = instance names next s; right = t } in
+    let e : Equation = record { names = n; left = fill r s; right = t } in
     let p : Problem = record { next_var = v; equations = e ∷ rest; bindings = [] } in
     unify-ends m p (Clashed false) (stepped m p e rest hs.head left.args ht.head right.args refl left.is right.is differ)
 
@@ -166,9 +174,9 @@ key-by : (ms : List Bool) (ts : List Term) (t : Term) → key_argument ms ts ≡
 key-by ms ts t e = ap (λ o. option_map_or key_of o Any) e
 
 -- inputs that are matched first, and then outputs, with the first of them a clash
-module _ (names next v : ℕ) (b e : Branch) (ms : List Bool) (us ts : List Term) (long : length us ≡ length ts) (stated : length ts ≡ length ms) (differ : Differ (key_among ms ts) (key_among ms us)) where
+module _ (r : Head → Term) (names v : ℕ) (b e : Branch) (ms : List Bool) (us ts : List Term) (long : length us ≡ length ts) (stated : length ts ≡ length ms) (stays : StaysAt r (key_among ms us)) (differ : Differ (key_among ms ts) (key_among ms us)) where
   abbrev ss : List Term
-  ss = map (instance names next) us
+  ss = map (fill r) us
 
   abbrev inputs : Problem
   inputs = record { next_var = v; equations = equations_at true names ms ss ts; bindings = [] }
@@ -180,11 +188,12 @@ module _ (names next v : ℕ) (b e : Branch) (ms : List Bool) (us ts : List Term
   result = matched unify e outputs (unify b.next_var inputs)
 
   -- the first input decides
-  by-input : (u t : Term) (rest : List Equation) → first_input ms us ≡ Some u → first_input ms ts ≡ Some t → equations_at true names ms ss ts ≡ record { names = names; left = instance names next u; right = t } ∷ rest → result ≡ Clashes
+  by-input : (u t : Term) (rest : List Equation) → first_input ms us ≡ Some u → first_input ms ts ≡ Some t → equations_at true names ms ss ts ≡ record { names = names; left = fill r u; right = t } ∷ rest → result ≡ Clashes
   by-input u t rest x y z =
+      let ku : key_among ms us ≡ key_of u = key-by ms us u (ap (λ o. or_first o us) x) in
       let d : Differ (key_of t) (key_of u) = subst (λ k. Differ k (key_of u)) (key-by ms ts t (ap (λ o. or_first o ts) y)) (subst (Differ (key_among ms ts)) (key-by ms us u (ap (λ o. or_first o us) x)) differ) in
       ap (λ es. matched unify e outputs (unify b.next_var (record { next_var = v; equations = es; bindings = [] }))) z
-      ∙ ap (matched unify e outputs) (clashing b.next_var next names names u t v rest d)
+      ∙ ap (matched unify e outputs) (clashing r b.next_var names u t v rest (λ h k. stays h (ku ∙ k)) d)
 
   -- without inputs the first output does
   by-output : first_input ms us ≡ None → first_input ms ts ≡ None → equations_at true names ms ss ts ≡ [] → (us' ts' : List Term) → us ≡ us' → ts ≡ ts' → result ≡ Clashes
@@ -194,21 +203,21 @@ module _ (names next v : ℕ) (b e : Branch) (ms : List Bool) (us ts : List Term
       let ku : key_among ms us ≡ key_of u = key-by ms us u (ap (λ o. or_first o us) x ∙ ap (or_first None) p) in
       let kt : key_among ms ts ≡ key_of t = key-by ms ts t (ap (λ o. or_first o ts) y ∙ ap (or_first None) q) in
       let d : Differ (key_of t) (key_of u) = subst (λ k. Differ k (key_of u)) kt (subst (Differ (key_among ms ts)) ku differ) in
-      let none : first_input ms (instance names next u ∷ map (instance names next) us') ≡ None =
-      ap (λ xs. first_input ms (map (instance names next) xs)) (sym p) ∙ input-map (instance names next) ms us ∙ ap (option_map (instance names next)) x in
-      let o = first-output names ms (instance names next u) t (map (instance names next) us') ts' (sym stated ∙ ap length q) none in
-      let is : outputs ≡ record { names = names; left = instance names next u; right = t } ∷ o.rest = ap (λ xs. equations_at false names ms (map (instance names next) xs) ts) p ∙ ap (equations_at false names ms (map (instance names next) (u ∷ us'))) q ∙ o.is in
+      let none : first_input ms (fill r u ∷ map (fill r) us') ≡ None =
+      ap (λ xs. first_input ms (map (fill r) xs)) (sym p) ∙ input-map (fill r) ms us ∙ ap (option_map (fill r)) x in
+      let o = first-output names ms (fill r u) t (map (fill r) us') ts' (sym stated ∙ ap length q) none in
+      let is : outputs ≡ record { names = names; left = fill r u; right = t } ∷ o.rest = ap (λ xs. equations_at false names ms (map (fill r) xs) ts) p ∙ ap (equations_at false names ms (map (fill r) (u ∷ us'))) q ∙ o.is in
       ap (λ es. matched unify e outputs (unify b.next_var (record { next_var = v; equations = es; bindings = [] }))) z
       ∙ ap (matched unify e outputs) (unify-ends b.next_var (record { next_var = v; equations = []; bindings = [] }) (Solved (record { next_var = v; equations = []; bindings = [] })) (nothing b.next_var v))
       ∙ ap (λ es. unified e [] (unify 0 (record { next_var = v; equations = map (bound_equation []) es; bindings = [] }))) is
-      ∙ ap (unified e []) (ap (λ (f : Equation). unify 0 (record { next_var = v; equations = f ∷ map (bound_equation []) o.rest; bindings = [] })) refl ∙ clashing 0 next names names u t v (map (bound_equation []) o.rest) d)
+      ∙ ap (unified e []) (ap (λ (f : Equation). unify 0 (record { next_var = v; equations = f ∷ map (bound_equation []) o.rest; bindings = [] })) refl ∙ clashing r 0 names u t v (map (bound_equation []) o.rest) (λ h k. stays h (ku ∙ k)) d)
 
   pub tried-clashes : result ≡ Clashes
-  tried-clashes = by (first-inputs names ms us ts long) (first-inputs names ms ss ts (length-map us (instance names next) ∙ long))
+  tried-clashes = by (first-inputs names ms us ts long) (first-inputs names ms ss ts (length-map us (fill r) ∙ long))
     where
       by : FirstInput names ms us ts → FirstInput names ms ss ts → result ≡ Clashes
       by (is_there u t x y w) (is_there s t' x' y' w') =
-          let at : instance names next u ≡ s = let k : Some (instance names next u) ≡ Some s = sym (ap (option_map (instance names next)) x) ∙ sym (input-map (instance names next) ms us) ∙ x' in cc in
+          let at : fill r u ≡ s = let k : Some (fill r u) ≡ Some s = sym (ap (option_map (fill r)) x) ∙ sym (input-map (fill r) ms us) ∙ x' in cc in
           let same : t' ≡ t = let k : Some t' ≡ Some t = sym y' ∙ y in cc in
           by-input u t w'.rest x y (w'.is ∙ (λ i. record { names = names; left = sym at i; right = same i } ∷ w'.rest))
       by (is_there u t x y w) (is_absent x' y' w') = absurd (let k : Some t ≡ None = sym y ∙ y' in cc)
@@ -253,7 +262,8 @@ module _ (p : Program) (c i barrier : ℕ) (k : Clause) (b : Branch) (goal : Goa
   by-count true e =
       let long : length (args_of k.head) ≡ length (args_of goal.term) =
       sym (length-map (args_of k.head) (instance goal.names b.next_var)) ∙ ap length (sym same-args) ∙ eqb-true (length (args_of made.head)) (length (args_of goal.term)) e in
-      ap attempt same-args ∙ tried-clashes goal.names b.next_var made.next_var b branch call.inputs (args_of k.head) (args_of goal.term) long call.count differ
+      ap attempt same-args
+      ∙ tried-clashes (fresh_for_variable goal.names b.next_var) goal.names made.next_var b branch call.inputs (args_of k.head) (args_of goal.term) long call.count (λ h q. fresh-stay goal.names b.next_var h (ap fits_every (sym q) ∙ differ.clause_firm)) differ
 
   pub clashes-at : try unify (Some call.inputs) b goal rest barrier (of_program i k) ≡ Clashes
   clashes-at =

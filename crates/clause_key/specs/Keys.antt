@@ -1,5 +1,5 @@
 -- Keys of arguments.
-use Rattle.std.specs.Prelude.{Bool, true, false, ◌||◌, nat_eq, List, [], ◌∷◌, Option, Some, None, unwrap_or}
+use Rattle.std.specs.Prelude.{ℕ, Bool, true, false, ◌||◌, cond, nat_eq, nat_lt, List, [], ◌∷◌, length, replicate, Option, Some, None, unwrap_or}
 use Rattle.std.specs.Option.{option_map_or}
 use Rattle.std.specs.Ordering.{int_eq}
 use Rattle.ref_terms.specs.terms.Term as term
@@ -8,6 +8,7 @@ use Rattle.ref_terms.specs.unification.Shape.{Shape, Abstraction, Redex, Rigid, 
 use Rattle.ref_terms.specs.unification.Spine.{head_of, args_of}
 use Rattle.ref_terms.specs.search.Program.{Program, constant_of}
 use Rattle.ref_terms.specs.search.Next.{constant_modes}
+use Rattle.ref_terms.specs.search.Assumption.{Assumption}
 use Rattle.clause_key.specs.declared.key.Key.{Key}
 use Rattle.clause_key.specs.declared.key.Key.TheVariants.{Any, Con, Int, Str, Level, Lam}
 
@@ -77,3 +78,20 @@ same_key _ _ = false
 -- whether a goal with one key may be solved by a clause with the other
 abbrev pub agree : (goal clause : Key) → Bool
 agree goal clause = fits_every goal || fits_every clause || same_key clause goal
+
+-- which arguments of an atom are inputs: without stated modes none is
+abbrev pub inputs_for : Option (List Bool) → Term → List Bool
+inputs_for modes t = unwrap_or modes (replicate (length (args_of t)) false)
+
+-- a key where the levels from `scope` on may become anything
+abbrev pub fixed_key : (scope : ℕ) → Key → Key
+fixed_key scope (Level l) = cond (nat_lt l scope) (Level l) Any
+fixed_key scope Any = Any
+fixed_key scope (Con c) = Con c
+fixed_key scope (Int n) = Int n
+fixed_key scope (Str s) = Str s
+fixed_key scope Lam = Lam
+
+-- the key of an assumption: its parameters may become anything
+abbrev pub assumption_key : (inputs : List Bool) → Assumption → Key
+assumption_key inputs a = fixed_key a.scope (key_among inputs (args_of a.head))

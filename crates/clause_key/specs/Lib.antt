@@ -1,3 +1,4 @@
 pub mod Keys
+pub mod Seen
 pub mod Passing
 pub mod Laws

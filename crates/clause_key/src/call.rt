@@ -24,7 +24,7 @@ fn first_input(inputs: &[bool], args: &[TermId]) -> Option<TermId>
 }
 
 /// The argument that has the key: the first input, or else the first argument.
-fn key_argument(inputs: &[bool], args: &[TermId]) -> Option<TermId>
+pub(crate) fn key_argument(inputs: &[bool], args: &[TermId]) -> Option<TermId>
     ensures { result ≡ spec.key_argument inputs.now args.now }
 {
     match first_input(inputs, args) {

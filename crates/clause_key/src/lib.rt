@@ -5,8 +5,10 @@
 #![tactic(auto)]
 
 mod call;
+mod glance;
 mod key;
 pub mod laws;
 
 pub use call::key_of_call;
+pub use glance::{fixed_key, seen_among};
 pub use key::{Key, agree, fits_every, key_of_form};

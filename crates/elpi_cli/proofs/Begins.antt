@@ -26,6 +26,8 @@ use Rattle.elpi_cli.specs.declared.status.Status.TheVariants as Status
 use Rattle.elpi_cli.specs.declared.top.Prepared.{Prepared}
 use Rattle.elpi_cli.specs.inside.Prepared.{IsOutputOf}
 use Rattle.elpi_cli.specs.inside.Searching.{HasOutput}
+use Rattle.ref_terms.specs.search.Strip.{IsCounted}
+use Rattle.ref_terms.proofs.search.CountedMoves.{first-counted}
 use Rattle.elpi_cli.specs.declared.built.Engine.{Engine}
 use Rattle.elpi_cli.specs.declared.texts.ProgramText.{ProgramText}
 use Rattle.elpi_cli.specs.declared.texts.TextStop.{TextStop}
@@ -56,6 +58,7 @@ engine-search items goal engine built is steps limit =
       runs = is.runs;
       symbols = sym is.symbols;
       no_rules = ap (map plain_rule) (no-rules (program_table items) items built);
+      counted = subst IsCounted (sym is.begins) (first-counted (searched_query items goal));
       output = sym (ap (λ (t : List (List ℕ)). written t (map plain_variable engine.machine.variables) limit 0 (shown (state_of program engine.machine))) is.symbols
           ∙ ap (λ (vs : List QueryVar). written (query_table items goal) (map plain_variable vs) limit 0 (shown (state_of program engine.machine))) is.variables
           ∙ ap (λ (s : State). written (query_table items goal) (map plain_variable (resolved_query items goal).vars) limit 0 (shown s)) is.begins);

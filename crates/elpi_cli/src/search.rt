@@ -11,6 +11,7 @@ ghost use Rattle.elpi_cli.specs.Written.{Emits, Progress, all_of};
 ghost use Rattle.elpi_cli.specs.inside.Searching.{followed, HasOutput};
 
 use crate::status::Status;
+use goal_run::laws::law_moves_show_the_same;
 use goal_run::{Event, Machine};
 use lam_io::{Sink, SinkFailed};
 use lp_resolve::Symbols;
@@ -132,6 +133,7 @@ pub fn answer_query<K: Sink>(
     requires { (whole : Output) × HasOutput symbols.now machine.old steps limit whole }
     ensures { (whole : Output) → HasOutput symbols.now machine.old steps limit whole → Emits K.told K.faults K.stopped sink.old sink.new whole result }
 {
+    law_moves_show_the_same();
     let mut count = 0;
     for made in 0..steps {
         let Ok(event) = machine.step(symbols) else {

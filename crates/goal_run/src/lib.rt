@@ -5,6 +5,7 @@
 mod answer;
 mod clauses;
 mod code;
+pub mod laws;
 mod machine;
 mod page;
 mod suspended;

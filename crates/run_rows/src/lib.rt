@@ -9,6 +9,8 @@ mod examples;
 #[cfg(test)]
 mod failing;
 #[cfg(test)]
+mod keys;
+#[cfg(test)]
 mod limits;
 #[cfg(test)]
 mod options;

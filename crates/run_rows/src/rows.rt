@@ -168,7 +168,7 @@ constraint p { } fail. ¦ p ) ¦ refused: a:1:18: S5 / 3
 p :- pi declare_constraint\\ q declare_constraint. q X. ¦ p ¦ answer 1 / no more / 0";
 
 /// Runs each line of a table.
-fn expect_rows(alloc: Global, rows: &str) -> Result<(), Fail> {
+pub(crate) fn expect_rows(alloc: Global, rows: &str) -> Result<(), Fail> {
     for row in rows.lines() {
         let (program, rest) = row.split_once('¦').ok_or("no query")?;
         let (query, wanted) = rest.split_once('¦').ok_or("no output")?;

@@ -1,5 +1,5 @@
 -- The assumptions of a call, in the heap and in the reference.
-use Rattle.std.proofs.Common.{◌≡◌, ℕ, zero, suc, ◌+◌, Bool, true, false, cond, nat_eq, List, [], ◌∷◌, ◌++◌, map, length, drop, replicate, Option, Some, refl, sym, ap, ap₂, ◌∙◌, subst, length-append}
+use Rattle.std.proofs.Common.{◌≡◌, ℕ, zero, suc, ◌+◌, Bool, true, false, cond, nat_eq, List, [], ◌∷◌, ◌++◌, map, length, drop, replicate, Option, Some, None, ◌||◌, refl, sym, ap, ap₂, ◌∙◌, subst, length-append}
 use Rattle.std.proofs.lemmas.List.{length-replicate}
 use Rattle.level_terms.specs.Graph.{Graph}
 use Rattle.level_terms.specs.Growth.{Grows}
@@ -14,23 +14,26 @@ use Rattle.ref_terms.specs.search.Assumption.{Assumption}
 use Rattle.ref_terms.specs.search.Instance.{fresh_for_parameter, parameter_instance, assumption_instance}
 use Rattle.ref_terms.specs.search.Branch.{Goal, Branch}
 use Rattle.ref_terms.specs.search.Candidates.{assumptions_for, from_place, program_candidates}
-use Rattle.ref_terms.specs.search.State.{of_assumption}
+use Rattle.ref_terms.specs.unification.Unification.{unify}
+use Rattle.ref_terms.specs.search.Strip.{is_open}
+use Rattle.ref_terms.specs.search.State.{Candidate, of_assumption}
+use Rattle.std.specs.List.{list_any}
 use Rattle.hyp_clause.specs.declared.hyp.Hyp.{Hyp}
 use Rattle.hyp_clause.specs.declared.hyp.HypInstance.{HypInstance}
 use Rattle.hyp_clause.specs.Hyps.{assumption_in, IsHypValid, AllHypsValid}
 use Rattle.hyp_clause.proofs.HypLemmas.{hyps-read, hyps-valid}
 use Rattle.hyp_context.specs.Contexts.{hyps_for}
 use Rattle.hyp_context.specs.declared.context.HypTail.{HypTail}
-use Rattle.hyp_context.proofs.ContextLemmas.{for-read, for_pred-reads}
+use Rattle.hyp_context.proofs.ContextLemmas.{for-read, for-valid}
+use Rattle.search_moves.specs.declared.frame.Later.{Later}
 use Rattle.search_moves.specs.declared.frame.Later.TheVariants.{Assumptions, Clauses}
 use Rattle.search_moves.specs.World.{IsUsable, AllUsable, IsContextAt}
 use Rattle.search_moves.specs.Reading.{first_assumptions, later_of}
 use Rattle.search_moves.specs.Instances.{IsMadeOf}
-use Rattle.search_moves.specs.Calling.{IsNextClause, IsLeftAfter, clauses_from}
+use Rattle.search_moves.specs.Calling.{IsLeftAfter}
 use Rattle.search_moves.proofs.MachineLemmas.{drop-map}
 use Rattle.search_moves.proofs.FrameLemmas.{all-valid-grown}
 use Rattle.search_moves.proofs.OwnLemmas.{stays-headed}
-use Rattle.search_moves.proofs.CallLemmas.{after-clause}
 
 -- what is left after the first of what is left
 pub drop-step : {A : Type 0} (i : ℕ) (xs : List A) (y : A) (ys : List A) → drop i xs ≡ y ∷ ys → drop (suc i) xs ≡ ys
@@ -71,10 +74,29 @@ after-some p b c g hs (h ∷ others) tail i next e d some n = (
   ap (λ k. later_of p b.goals c.0 (Assumptions k tail)) n,
 )
 
-pub after-none : (p : Program) (b : Branch) (c : Sym) (g : Graph) (hs others : List Hyp) (i : ℕ) (next : Option ℕ) → first_assumptions b.goals ≡ map (assumption_in g) hs → others ≡ drop i (hyps_for c.0 hs) → others ≡ [] → IsNextClause p.clauses c.0 0 next
-    → IsLeftAfter p b c (later_of p b.goals c.0 (Assumptions i others)) (clauses_from next)
-after-none p b c g hs others i next e d none is =
-    subst (λ cs. IsLeftAfter p b c cs (clauses_from next)) (sym (later-none p g b.goals c.0 i hs others e (sym d ∙ none))) (after-clause p b c 0 next is)
+pub after-none : (p : Program) (b : Branch) (c : Sym) (g : Graph) (hs others : List Hyp) (i : ℕ) (later : Option Later) → first_assumptions b.goals ≡ map (assumption_in g) hs → others ≡ drop i (hyps_for c.0 hs) → others ≡ []
+    → IsLeftAfter p b c (program_candidates c.0 0 p.clauses) later → IsLeftAfter p b c (later_of p b.goals c.0 (Assumptions i others)) later
+after-none p b c g hs others i later e d none is =
+    subst (λ cs. IsLeftAfter p b c cs later) (sym (later-none p g b.goals c.0 i hs others e (sym d ∙ none))) is
+
+-- two lists of which nothing passes a test
+none-appended : (test : Candidate → Bool) (xs ys : List Candidate) → list_any test xs ≡ false → list_any test ys ≡ false → list_any test (xs ++ ys) ≡ false
+none-appended test [] ys e f = f
+none-appended test (x ∷ xs) ys e f = by (test x) e (λ k. none-appended test xs ys k f)
+  where
+    by : (b : Bool) → (b || list_any test xs) ≡ false → (list_any test xs ≡ false → list_any test (xs ++ ys) ≡ false) → (b || list_any test (xs ++ ys)) ≡ false
+    by true e f = absurd (let z : true ≡ false = e in cc)
+    by false e f = f e
+
+-- where all assumptions that are left clash, and all clauses do, nothing is left
+pub after-clashes : (p : Program) (b : Branch) (c : Sym) (g : Graph) (hs others : List Hyp) (i : ℕ) → first_assumptions b.goals ≡ map (assumption_in g) hs → others ≡ drop i (hyps_for c.0 hs)
+    → list_any (is_open unify p b) (from_place of_assumption i (map (assumption_in g) others)) ≡ false → list_any (is_open unify p b) (program_candidates c.0 0 p.clauses) ≡ false
+    → IsLeftAfter p b c (later_of p b.goals c.0 (Assumptions i others)) None
+after-clashes p b c g hs others i e d closed none =
+    let test : Candidate → Bool = is_open unify p b in
+    let left : drop i (assumptions_for c.0 (first_assumptions b.goals)) ≡ map (assumption_in g) others = read-left g c.0 i hs (first_assumptions b.goals) e ∙ ap (map (assumption_in g)) (sym d) in
+    ap (λ xs. list_any test (from_place of_assumption i xs ++ program_candidates c.0 0 p.clauses)) left
+    ∙ none-appended test (from_place of_assumption i (map (assumption_in g) others)) (program_candidates c.0 0 p.clauses) closed none
 
 -- what holds of a goal's assumptions holds of those that are left
 
@@ -97,11 +119,14 @@ usable-for g d c (h ∷ hs) v = go (nat_eq c h.pred.0) (usable-for g d c hs v.1)
     go false w = w
 
 pub hyp-there : (g : Graph) (d c i : ℕ) (hs : List Hyp) (h : Hyp) (others : List Hyp) → IsContextAt g d hs → drop i (hyps_for c hs) ≡ h ∷ others → IsHypValid g h × IsUsable g d h
-hyp-there g d c i hs h others v e =
-    let valid = (for_pred-reads g c hs (map (assumption_in g) hs) (record { reads = refl; valid = v.valid })).valid in (
-      (subst (AllHypsValid g) e (valid-dropped g i (hyps_for c hs) valid)).0,
-      (subst (AllUsable g d) e (usable-dropped g d i (hyps_for c hs) (usable-for g d c hs v.usable))).0,
-    )
+hyp-there g d c i hs h others v e = (
+  (subst (AllHypsValid g) e (valid-dropped g i (hyps_for c hs) (for-valid g c hs v.valid))).0,
+  (subst (AllUsable g d) e (usable-dropped g d i (hyps_for c hs) (usable-for g d c hs v.usable))).0,
+)
+
+pub hyps-left : (g : Graph) (d c i : ℕ) (hs : List Hyp) → IsContextAt g d hs → AllHypsValid g (drop i (hyps_for c hs)) × AllUsable g d (drop i (hyps_for c hs))
+hyps-left g d c i hs v =
+    (valid-dropped g i (hyps_for c hs) (for-valid g c hs v.valid), usable-dropped g d i (hyps_for c hs) (usable-for g d c hs v.usable))
 
 -- an assumption in the heap
 

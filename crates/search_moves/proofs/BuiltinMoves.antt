@@ -17,7 +17,7 @@ use Rattle.search_moves.specs.declared.machine.Phase.TheVariants as phase
 use Rattle.search_moves.specs.declared.machine.Event.{Event}
 use Rattle.search_moves.specs.declared.machine.Event.TheVariants as event
 use Rattle.search_moves.specs.Reading.{goal_in}
-use Rattle.search_moves.specs.Machine.{Machine, branch_of, alternatives_of, rest_of, event_of, state_at, move_of, HasMoved, GoesOnSo}
+use Rattle.search_moves.specs.Machine.{Machine, branch_of, alternatives_of, rest_of, event_of, state_at, move_of, HasMoved, GoesOnSo, whole}
 use Rattle.search_moves.proofs.MoveLemmas.{moved-as, failed}
 
 module _ (p : Program) (table : List (List ℕ)) (known : p.symbols ≡ table) (old m new : Machine) (f : Frame) (w : Reserved) (ts : List TermId) (heap : m.world.heap ≡ old.world.heap) where
@@ -37,7 +37,7 @@ module _ (p : Program) (table : List (List ℕ)) (known : p.symbols ≡ table) (
       let last : Move = record { event = event_shown shown; state = Running (bound_branch h.made n left) (alternatives_of p old) } in
       moved-as p (move_of p old f (reserved_goal w (all_read old.world.heap ts))) last e new
       (same ∙ h.moves p (branch_of old) (goal_in old.world.heap f) (rest_of old f) (alternatives_of p old) known variables refl)
-      (record { event = shows new; state = ap (state_at p new) running ∙ ap₂ (λ (b : Branch) (xs : List Alternative). Running b xs) (h.branch ∙ ap (bound_branch h.made n) branch) others })
+      (record { event = shows new; state = whole (ap (state_at p new) running ∙ ap₂ (λ (b : Branch) (xs : List Alternative). Running b xs) (h.branch ∙ ap (bound_branch h.made n) branch) others) })
 
   pub builtin-fails : alternatives_of p new ≡ alternatives_of p old → new.phase ≡ phase.Failed → FailsSo table m.world.heap f.depth (reserved_goal w (all_read m.world.heap ts))
       → HasMoved p (move_of p old f (reserved_goal w (all_read old.world.heap ts))) event.Moved new

@@ -16,10 +16,7 @@ use Rattle.ref_terms.specs.search.State.{Candidate, of_program}
 use Rattle.ref_terms.specs.search.Branch.{Goal, Branch, bound, bound_goal, bound_branch}
 use Rattle.ref_terms.specs.search.Resolve.{Tried, Clashes, equations_at, entered, matched, try}
 use Rattle.search_moves.specs.Matching.{tried_at}
-use Rattle.ref_terms.specs.declared.sym.Sym.{Sym}
-use Rattle.ref_terms.specs.search.Program.{Program}
 use Rattle.search_moves.specs.Instances.{IsHeadMade}
-use Rattle.search_moves.specs.Calling.{IsNextClause, IsLeftAfter, IsFirstClause, clauses_from}
 
 -- what the reference makes of a clause, by all that it asks of it
 abbrev tried_by : Branch → Goal → List Goal → (barrier mark : ℕ) → Candidate → (ms : List Bool) → (ss ts : List Term) → (next : ℕ) → (body : List Term) → Tried
@@ -69,11 +66,3 @@ pub candidates-at : (ks : List Clause) (c i : ℕ) (k : Clause) → slice_get ks
 candidates-at ks c i k e headed =
     ap (program_candidates c i) (drop-at ks i k e)
     ∙ ap (λ b. cond b (of_program i k ∷ program_candidates c (suc i) (drop (suc i) ks)) (program_candidates c (suc i) (drop (suc i) ks))) headed
-
-pub later-is : (ks : List Clause) (c from i : ℕ) → IsFirstClause ks c from i → program_candidates c from (drop from ks) ≡ program_candidates c i (drop i ks)
-later-is ks c from i f = f.is ∙ sym (candidates-at ks c i f.clause f.here f.headed)
-
--- the clauses after a clause
-pub after-clause : (p : Program) (b : Branch) (c : Sym) (from : ℕ) (later : Option ℕ) → IsNextClause p.clauses c.0 from later → IsLeftAfter p b c (program_candidates c.0 from (drop from p.clauses)) (clauses_from later)
-after-clause p b c from None is = is
-after-clause p b c from (Some i) is = (of_program i is.clause, program_candidates c.0 (suc i) (drop (suc i) p.clauses), is.is, sym (later-is p.clauses c.0 from i is))

@@ -1,5 +1,5 @@
 -- What calls of atoms and retries of clauses come to.
-use Rattle.std.proofs.Common.{◌≡◌, ℕ, Bool, cond, List, [], ◌∷◌, map, length, Option, Some, None, eq-eqb, ne_eqb, sym, ap, ap₂, ◌∙◌}
+use Rattle.std.proofs.Common.{◌≡◌, ℕ, Bool, cond, List, [], ◌∷◌, map, length, Option, Some, None, eq-eqb, ne_eqb, sym, ap, ap₂, ◌∙◌, subst}
 use Rattle.std.proofs.lemmas.List.{length-map}
 use Rattle.level_terms.specs.Reading.{read}
 use Rattle.beta_fragment.specs.Names.{names}
@@ -10,10 +10,11 @@ use Rattle.ref_terms.specs.terms.Term.{Term, Con}
 use Rattle.ref_terms.specs.unification.Spine.{head_of}
 use Rattle.ref_terms.specs.unification.Unification.{unify}
 use Rattle.ref_terms.specs.search.Program.{Program, modes_of, constant_of}
-use Rattle.ref_terms.specs.search.Fault.{Judged, Bad}
+use Rattle.ref_terms.specs.search.Fault.{Judged, Good, Bad}
+use Rattle.ref_terms.specs.search.Strip.{BarriersFall}
 use Rattle.ref_terms.specs.search.Formula.{Atom}
 use Rattle.ref_terms.specs.search.Candidates.{candidates, assumptions_for, checked_arity, call_fault}
-use Rattle.ref_terms.specs.search.State.{Move, goes_on, faults}
+use Rattle.ref_terms.specs.search.State.{Candidate, Move, goes_on, faults}
 use Rattle.ref_terms.specs.search.BranchMove.{fails, with_later, enters, calls}
 use Rattle.ref_terms.specs.search.Resolve.{Resolved, resolve}
 use Rattle.ref_terms.specs.search.Next.{retry, retaken, resolve_later, constant_modes}
@@ -33,10 +34,24 @@ use Rattle.search_moves.specs.Reading.{goal_in, left_at, saved_in, first_assumpt
 use Rattle.search_moves.specs.Machine.{Machine, branch_of, alternatives_of, rest_of, move_of, IsFirst, HasMoved}
 use Rattle.search_moves.specs.Calling.{resolved_later, HasResolvedLater}
 use Rattle.search_moves.proofs.EnterLemmas.{goals-are}
-use Rattle.search_moves.proofs.MoveLemmas.{moved, failed, moved-as}
+use Rattle.search_moves.proofs.MoveLemmas.{entered, failed, moved-as}
+use Rattle.ref_terms.proofs.search.CountedMoves.{OutcomeFalls, resolve-falls}
+use Rattle.ref_terms.proofs.search.KeptCounts.{falls-higher}
 
 counted : (p : Program) (m : Machine) → length (alternatives_of p m) ≡ length m.saved
 counted p m = length-map m.saved (saved_in p m.world)
+
+-- no goal of the branch that a clause gives counts what is left of the call, where none of the call's own goals does
+resolved-falls : (p : Program) (m : Machine) (f : Frame) (modes : Option (List Bool)) (cs : List Candidate) (r : Resolved) → IsFirst m f
+    → resolve unify modes (branch_of m) (goal_in m.world.heap f) (rest_of m f) (length m.saved) cs ≡ Some (Good r)
+    → BarriersFall (length (alternatives_of p m)) (branch_of m).goals → BarriersFall (length (alternatives_of p m)) r.branch.goals
+resolved-falls p m f modes cs r first found falls =
+    let n = length m.saved in
+    let goal = goal_in m.world.heap f in
+    let here : BarriersFall n (goal ∷ rest_of m f) = subst (BarriersFall n) (goals-are m f first) (subst (λ k. BarriersFall k (branch_of m).goals) (counted p m) falls) in
+    let outcome : OutcomeFalls n (Some (Good r)) =
+    subst (OutcomeFalls n) found (resolve-falls unify modes (branch_of m) goal (rest_of m f) n cs (falls-higher goal.barrier n (rest_of m f) here.0 here.1)) in
+    subst (λ k. BarriersFall k r.branch.goals) (sym (counted p m)) outcome
 
 -- the assumptions of the first goal
 pub assumed-first : (m : Machine) (f : Frame) → IsFirst m f → first_assumptions (branch_of m).goals ≡ map (assumption_in m.world.heap) f.context
@@ -79,7 +94,8 @@ module _ (p : Program) (m new : Machine) (f : Frame) (c : ℕ) (ts : List Term) 
   call-fits r running =
       moved-as p (move_of p m f (Atom c ts)) (goes_on r.resolved.branch (with_later (branch_of m) r.resolved.later (alternatives_of p m))) event.Moved new
       (call-is p m f c ts hs first known ∙ ap (enters (branch_of m) (alternatives_of p m)) r.found)
-      (moved p new r.resolved.branch (with_later (branch_of m) r.resolved.later (alternatives_of p m)) running r.branch r.alternatives)
+      (entered p new (branch_of m) r.resolved (alternatives_of p m)
+      (resolved-falls p m f (modes_of p c) (later_of p (branch_of m).goals c (Assumptions 0 hs)) r.resolved first r.found) running r.branch r.alternatives)
 
   pub call-fails : resolved_later p m f c (Assumptions 0 hs) (modes_of p c) ≡ None → new.phase ≡ phase.Failed → alternatives_of p new ≡ alternatives_of p m → HasMoved p (move_of p m f (Atom c ts)) event.Moved new
   call-fails none ended others =
@@ -107,7 +123,8 @@ module _ (p : Program) (m new : Machine) (f : Frame) (c : Sym) (later : Later) (
   retry-fits r running =
       moved-as p (retry unify p (left_at p (branch_of m) (LeftCall c later) ∷ alternatives_of p m)) (goes_on r.resolved.branch (with_later (branch_of m) r.resolved.later (alternatives_of p m))) event.Moved new
       (retry-is p m f c later first head ∙ ap (retaken (branch_of m) (alternatives_of p m) (retry unify p (alternatives_of p m))) r.found)
-      (moved p new r.resolved.branch (with_later (branch_of m) r.resolved.later (alternatives_of p m)) running r.branch r.alternatives)
+      (entered p new (branch_of m) r.resolved (alternatives_of p m)
+      (resolved-falls p m f (modes_of p c.0) (later_of p (branch_of m).goals c.0 later) r.resolved first r.found) running r.branch r.alternatives)
 
   pub retry-fails : resolved_later p m f c.0 later (modes_of p c.0) ≡ None → retry unify p (left_at p (branch_of m) (LeftCall c later) ∷ alternatives_of p m) ≡ retry unify p (alternatives_of p m)
   retry-fails none = retry-is p m f c later first head ∙ ap (retaken (branch_of m) (alternatives_of p m) (retry unify p (alternatives_of p m))) none

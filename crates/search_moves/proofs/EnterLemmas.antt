@@ -37,7 +37,7 @@ use Rattle.search_moves.specs.Reading.{goal_in, branch_in, left_at, saved_in}
 use Rattle.search_moves.specs.Moves.{Growing, LeavesRest}
 use Rattle.search_moves.specs.Machine.{Machine, branch_of, alternatives_of, rest_of, IsFirst}
 use Rattle.search_moves.specs.Instances.{IsHeadMade, ReadAsVariables}
-use Rattle.search_moves.specs.Calling.{IsCall, HasInputs, tried_made, tried_here, HasFitted, HasClashed, HasBroken, BreaksSo, IsLeftAfter, LeavesLater, clauses_from}
+use Rattle.search_moves.specs.Calling.{IsCall, HasInputs, tried_made, tried_here, HasFitted, HasClashed, HasBroken, BreaksSo, IsLeftAfter, LeavesLater, Leaves, left_over, left_out, clauses_from}
 use Rattle.search_moves.proofs.CallLemmas.{try-at, entered-bound}
 use Rattle.search_moves.proofs.GrowLemmas.{no-notes, first-grown, growing-keeps}
 use Rattle.search_moves.proofs.SavedLemmas.{all-kept}
@@ -257,16 +257,16 @@ pub later-left : (p : Program) (m0 m1 m2 m3 new : Machine) (c : Sym) (mark : Mar
     → mark ≡ mark_of m0.world → first ≡ m0.first → IfSome later (λ l. AllSaved m0.world (record { mark = mark; first = first; left = LeftCall c l } ∷ m0.saved))
     → Grows m0.world.heap m1.world.heap [] [] → LeavesRest m0.world m1.world → Growing m1.world.heap m2.world.heap → LeavesRest m1.world m2.world
     → alternatives_of p m1 ≡ alternatives_of p m0 → alternatives_of p m2 ≡ alternatives_of p m1 → LeavesLater p m2 m3 mark first c later → alternatives_of p new ≡ alternatives_of p m3
-    → alternatives_of p new ≡ with_later (branch_of m0) cs (alternatives_of p m0)
+    → Leaves p (branch_of m0) cs (alternatives_of p m0) (alternatives_of p new)
 later-left p m0 m1 m2 m3 new c mark first cs None none e n h grows rest grows2 rest2 a1 a2 a3 a4 =
-    a4 ∙ a3 ∙ a2 ∙ a1 ∙ ap (λ xs. with_later (branch_of m0) xs (alternatives_of p m0)) (sym none)
+    left_out (a4 ∙ a3 ∙ a2 ∙ a1) none
 later-left p m0 m1 m2 m3 new c mark first cs (Some later) (x, xs, some, is) e n h grows rest grows2 rest2 a1 a2 a3 a4 =
     let a : Saved = record { mark = mark; first = first; left = LeftCall c later } in
     let kept = (keeps-both m0.world m1.world m2.world a m0.saved h grows rest grows2 rest2).same in
     let here : saved_in p m2.world a ≡ left_at p (branch_of m0) (LeftCall c later) =
     ap (λ z. left_at p (branch_in z first) (LeftCall c later)) (kept ∙ ap (λ k. undone k m0.world) e ∙ undone-now m0.world) ∙ ap (λ k. left_at p (branch_in m0.world k) (LeftCall c later)) n in
-    a4 ∙ a3 ∙ ap (λ (y : Alternative). y ∷ alternatives_of p m2) here ∙ ap (λ (ys : List Alternative). left_at p (branch_of m0) (LeftCall c later) ∷ ys) (a2 ∙ a1)
-    ∙ ap (λ zs. later_clauses (branch_of m0) zs ∷ alternatives_of p m0) (is ∙ some) ∙ ap (λ zs. with_later (branch_of m0) zs (alternatives_of p m0)) (sym some)
+    left_over (a4 ∙ a3 ∙ ap (λ (y : Alternative). y ∷ alternatives_of p m2) here ∙ ap (λ (ys : List Alternative). left_at p (branch_of m0) (LeftCall c later) ∷ ys) (a2 ∙ a1)
+    ∙ ap (λ zs. later_clauses (branch_of m0) zs ∷ alternatives_of p m0) (is ∙ some) ∙ ap (λ zs. with_later (branch_of m0) zs (alternatives_of p m0)) (sym some))
 
 -- a clause that is there
 pub get-some : (ks : List Clause) (i : ℕ) → i < length ks → (k : Clause) × (slice_get ks i ≡ Some k)

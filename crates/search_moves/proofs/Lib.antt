@@ -27,6 +27,8 @@ pub mod ConstantLemmas
 pub mod CallMoves
 pub mod AssumeTries
 pub mod TryLemmas
+pub mod PassLemmas
+pub mod LeanLemmas
 pub mod QuantifierMoves
 pub mod VariableLemmas
 pub mod BuiltinMoves

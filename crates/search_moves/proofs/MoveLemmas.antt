@@ -1,5 +1,5 @@
 -- What moves come to.
-use Rattle.std.proofs.Common.{◌≡◌, List, [], ◌∷◌, length, map, Some, None, Result, Ok, Err, IfOk, refl, sym, ap, ap₂, ◌∙◌, subst}
+use Rattle.std.proofs.Common.{◌≡◌, false, List, [], ◌∷◌, length, map, Some, None, Result, Ok, Err, IfOk, refl, sym, ap, ap₂, ◌∙◌, subst}
 use Rattle.std.proofs.lemmas.List.{length-map}
 use Rattle.level_terms.specs.Reading.{read}
 use Rattle.beta_fragment.specs.Names.{names}
@@ -9,8 +9,11 @@ use Rattle.ref_terms.specs.unification.Unification.{unify}
 use Rattle.ref_terms.specs.declared.fault.Fault.{Fault}
 use Rattle.ref_terms.specs.search.Program.{Program}
 use Rattle.ref_terms.specs.search.Branch.{Goal, Constraint, Branch}
-use Rattle.ref_terms.specs.search.BranchMove.{fails}
-use Rattle.ref_terms.specs.search.State.{Alternative, Move, Running, Ended, Failure, Answered, goes_on, stops, faults}
+use Rattle.ref_terms.specs.search.BranchMove.{fails, with_later}
+use Rattle.ref_terms.specs.search.Resolve.{Resolved}
+use Rattle.ref_terms.specs.search.Strip.{is_open, BarriersFall}
+use Rattle.std.specs.List.{list_any}
+use Rattle.ref_terms.specs.search.State.{Candidate, Alternative, later_clauses, Move, Running, Ended, Failure, Answered, goes_on, stops, faults}
 use Rattle.ref_terms.specs.search.Next.{next, retry, by_goal, by_rule, by_waking, woken}
 use Rattle.ref_terms.specs.search.FirstRule.{first_firing}
 use Rattle.search_moves.specs.declared.frame.Frame.{Frame}
@@ -21,7 +24,8 @@ use Rattle.search_moves.specs.declared.machine.Event.TheVariants as event
 use Rattle.search_moves.specs.World.{chain}
 use Rattle.search_moves.specs.Reading.{goal_in, saved_in}
 use Rattle.search_moves.specs.Waking.{up_in, HasWoken}
-use Rattle.search_moves.specs.Machine.{Machine, branch_of, alternatives_of, state_at, state_of, rest_of, move_of, IsFirst, HasMoved}
+use Rattle.search_moves.specs.Calling.{Leaves, left_over, left_out}
+use Rattle.search_moves.specs.Machine.{Machine, branch_of, alternatives_of, state_at, state_of, rest_of, move_of, IsFirst, IsLean, whole, leaner, HasMoved}
 
 pub if-ok : {T E : Type 0} (r : Result T E) (A B : T → Type 0) → ((t : T) → A t → B t) → IfOk r A → IfOk r B
 if-ok (Ok t) A B f h = f t h
@@ -30,17 +34,38 @@ if-ok (Err e) A B f h = tt
 pub moved : (p : Program) (m : Machine) (b : Branch) (alts : List Alternative) → m.phase ≡ phase.Running → branch_of m ≡ b → alternatives_of p m ≡ alts → HasMoved p (goes_on b alts) event.Moved m
 moved p m b alts e branch others = record {
   event = refl;
-  state = ap (state_at p m) e ∙ ap₂ (λ (x : Branch) (xs : List Alternative). Running x xs) branch others;
+  state = whole (ap (state_at p m) e ∙ ap₂ (λ (x : Branch) (xs : List Alternative). Running x xs) branch others);
 }
 
+-- a clause fits: what is left of the call is an alternative, or all of it clashes
+pub entered : (p : Program) (m : Machine) (b : Branch) (r : Resolved) (alts : List Alternative) → (BarriersFall (length alts) b.goals → BarriersFall (length alts) r.branch.goals)
+    → m.phase ≡ phase.Running → branch_of m ≡ r.branch → Leaves p b r.later alts (alternatives_of p m) → HasMoved p (goes_on r.branch (with_later b r.later alts)) event.Moved m
+entered p m b r alts falls e branch (left_over others) = moved p m r.branch (with_later b r.later alts) e branch others
+entered p m b r alts falls e branch (left_out others clash) = by r.later clash
+  where
+    by : (cs : List Candidate) → list_any (is_open unify p b) cs ≡ false → HasMoved p (goes_on r.branch (with_later b cs alts)) event.Moved m
+    by [] clash = moved p m r.branch alts e branch others
+    by (x ∷ xs) clash = record {
+      event = refl;
+      state = leaner (record {
+        branch = r.branch;
+        alternative = later_clauses b (x ∷ xs);
+        older = alts;
+        before = refl;
+        after = ap (state_at p m) e ∙ ap₂ (λ (x : Branch) (xs : List Alternative). Running x xs) branch others;
+        clashes = clash;
+        uncounted = falls;
+      });
+    }
+
 pub failed : (p : Program) (m : Machine) (alts : List Alternative) → m.phase ≡ phase.Failed → alternatives_of p m ≡ alts → HasMoved p (fails alts) event.Moved m
-failed p m alts e others = record { event = refl; state = ap (state_at p m) e ∙ ap (λ (xs : List Alternative). Ended None xs) others }
+failed p m alts e others = record { event = refl; state = whole (ap (state_at p m) e ∙ ap (λ (xs : List Alternative). Ended None xs) others) }
 
 pub exhausted : (p : Program) (m : Machine) → m.phase ≡ phase.Exhausted → HasMoved p (stops Failure) event.Failure m
-exhausted p m e = record { event = refl; state = ap (state_at p m) e }
+exhausted p m e = record { event = refl; state = whole (ap (state_at p m) e) }
 
 pub broken : (p : Program) (m : Machine) (f : Fault) → m.phase ≡ phase.Broken f → HasMoved p (faults f) (event.Fault f) m
-broken p m f e = record { event = refl; state = ap (state_at p m) e }
+broken p m f e = record { event = refl; state = whole (ap (state_at p m) e) }
 
 -- the same move, said otherwise
 pub moved-as : (p : Program) (x y : Move) (e : Event) (m : Machine) → x ≡ y → HasMoved p y e m → HasMoved p x e m
@@ -96,7 +121,7 @@ answered p old new none asleep e empty same =
     let last : Move = record { event = Answered (branch_of old); state = Ended (Some (branch_of old)) (alternatives_of p old) } in
     moved-as p (next unify p (state_of p old)) last event.Answer new
     (next-is p old none asleep e ∙ ap (λ fs. by_goal unify p (branch_of old) (alternatives_of p old) (map (goal_in old.world.heap) fs)) empty)
-    (record { event = ap (λ m. Answered (branch_of m)) same; state = ap (state_of p) same })
+    (record { event = ap (λ m. Answered (branch_of m)) same; state = whole (ap (state_of p) same) })
 
 -- a fault
 pub broken-off : (p : Program) (move : Move) (old new : Machine) (f : Fault) (e : Event) → move ≡ faults f → e ≡ event.Fault f → new ≡ record old { phase = phase.Broken f } → HasMoved p move e new

@@ -1,5 +1,5 @@
 -- Terms headed by a constant, in the reference and in a heap that grows, and the hypothetical clauses of a term.
-use Rattle.std.proofs.Common.{◌≡◌, ℕ, zero, suc, ◌+◌, ◌<◌, ◌≤◌, Bool, true, false, cond, nat_lt, List, [], ◌∷◌, ◌++◌, map, length, Option, Some, None, refl, sym, ap, ◌∙◌, subst, arith}
+use Rattle.std.proofs.Common.{◌≡◌, ℕ, ◌+◌, ◌<◌, ◌≤◌, List, [], ◌∷◌, ◌++◌, map, length, Option, Some, None, refl, sym, ap, ◌∙◌, subst, arith}
 use Rattle.std.proofs.lemmas.List.{map-append}
 use Rattle.level_terms.specs.declared.node.Change.{Change}
 use Rattle.level_terms.specs.Graph.{Graph, Assigned}
@@ -10,21 +10,17 @@ use Rattle.level_terms.proofs.ReadingLemmas.{assignment_instantiates}
 use Rattle.level_terms.proofs.ValidLemmas.{growth_keeps_readings}
 use Rattle.level_terms.proofs.ReadLemmas.{valid-below}
 use Rattle.beta_fragment.specs.Names.{names}
-use Rattle.ref_terms.specs.terms.Term.{Term, Head, Lam, At, App, Con, Int, Str, Name, Bound, Var}
+use Rattle.ref_terms.specs.terms.Term.{Term, Head, Lam, At, App, Con}
 use Rattle.ref_terms.specs.terms.Apply.{apply, fill}
 use Rattle.ref_terms.specs.terms.Instance.{inst, only}
 use Rattle.ref_terms.specs.unification.Spine.{head_of, args_of}
-use Rattle.ref_terms.specs.unification.Shape as shapes
-use Rattle.ref_terms.specs.unification.Shape.{Shape, shape, headed}
-use Rattle.ref_terms.specs.declared.reserved.Reserved.{Reserved}
-use Rattle.ref_terms.specs.declared.reserved.Reserved.TheVariants.{True as True_word, Fail as Fail_word, Cut as Cut_word, And as And_word, Or as Or_word, Implies as Implies_word, If as If_word, Pi as Pi_word, Sigma as Sigma_word, Equal as Equal_word, Same as Same_word, Var as Var_word, Name as Name_word, Is as Is_word, Less as Less_word, Print as Print_word, Beta as Beta_word, Suspend as Suspend_word, Nil as Nil_word, Cons as Cons_word, Plus as Plus_word, Minus as Minus_word, Times as Times_word, Nonvar as Nonvar_word, Distinct as Distinct_word}
-use Rattle.ref_terms.specs.search.Reserved.{word_of, if_term, implies_term}
-use Rattle.ref_terms.specs.declared.fault.Fault.TheVariants.{FlexClause, NotGoal}
-use Rattle.ref_terms.specs.search.Fault.{Judged, Good, Bad, judged_map, judged_append}
-use Rattle.ref_terms.specs.search.Assumption.{Assumption, guarded, quantified, clause_form, clause_at, constants, read_at, assumptions_of}
+use Rattle.ref_terms.specs.search.Fault.{Good}
+use Rattle.ref_terms.specs.search.Assumption.{assumptions_of}
 use Rattle.hyp_clause.specs.declared.hyp.Hyp.{Hyp}
 use Rattle.hyp_clause.specs.Hyps.{assumption_in, AllHypsValid}
+use Rattle.hyp_clause.specs.Headed.{AllHeaded, AllScoped}
 use Rattle.hyp_clause.proofs.HypLemmas.{hyps-valid, hyps-append}
+use Rattle.hyp_clause.proofs.HeadedLemmas.{assumed-headed, assumed-scoped}
 use Rattle.search_moves.specs.World.{AllUsable, IsContextAt}
 
 -- a term headed by a constant stays so where that constant stands for itself, and so do its arguments
@@ -95,107 +91,13 @@ usable-append g d (x ∷ xs) ys u v = (u.0, usable-append g d xs ys u.1 v)
 pub context-append : (g : Graph) (d : ℕ) (xs ys : List Hyp) → IsContextAt g d xs → IsContextAt g d ys → IsContextAt g d (xs ++ ys)
 context-append g d xs ys u v = record { valid = hyps-append g xs ys u.valid v.valid; usable = usable-append g d xs ys u.usable v.usable }
 
--- a clause that a term assumes under so many names
-record IsOwn (scope : ℕ) (a : Assumption) : Type 0 where
-  pub at : a.scope ≡ scope
-  pub headed : head_of a.head ≡ Some (Con a.pred)
-
-abbrev AllOwn : ℕ → List Assumption → Type 0
-AllOwn scope [] = Unit {0}
-AllOwn scope (a ∷ xs) = IsOwn scope a × AllOwn scope xs
-
-abbrev Owned : ℕ → Judged (List Assumption) → Type 0
-Owned scope (Good xs) = AllOwn scope xs
-Owned scope (Bad e) = Unit {0}
-
-own-append : (scope : ℕ) (xs ys : List Assumption) → AllOwn scope xs → AllOwn scope ys → AllOwn scope (xs ++ ys)
-own-append scope [] ys u v = v
-own-append scope (x ∷ xs) ys u v = (u.0, own-append scope xs ys u.1 v)
-
-owned-append : (scope : ℕ) (x y : Judged (List Assumption)) → Owned scope x → Owned scope y → Owned scope (judged_append x y)
-owned-append scope (Good xs) (Good ys) u v = own-append scope xs ys u v
-owned-append scope (Good xs) (Bad e) u v = tt
-owned-append scope (Bad e) (Good ys) u v = tt
-owned-append scope (Bad e) (Bad f) u v = tt
-
-own-map : (scope : ℕ) (f : Assumption → Assumption) → ((a : Assumption) → IsOwn scope a → IsOwn scope (f a)) → (xs : List Assumption) → AllOwn scope xs → AllOwn scope (map f xs)
-own-map scope f k [] u = tt
-own-map scope f k (x ∷ xs) u = (k x u.0, own-map scope f k xs u.1)
-
-owned-map : (scope : ℕ) (f : Assumption → Assumption) → ((a : Assumption) → IsOwn scope a → IsOwn scope (f a)) → (x : Judged (List Assumption)) → Owned scope x → Owned scope (judged_map (map f) x)
-owned-map scope f k (Good xs) u = own-map scope f k xs u
-owned-map scope f k (Bad e) u = tt
-
-module _ (look : ℕ → Term → Judged (List Assumption)) (scope : ℕ) (known : (k : ℕ) (d : Term) → Owned scope (look k d)) where
-  form-owned : (bound c : ℕ) (o : Option Reserved) (ts : List Term) (t : Term) → head_of t ≡ Some (Con c) → Owned scope (clause_form look scope bound c o ts t)
-  form-owned bound c None ts t e = (record { at = refl; headed = e }, tt)
-  form-owned bound c (Some Nonvar_word) ts t e = (record { at = refl; headed = e }, tt)
-  form-owned bound c (Some Distinct_word) ts t e = (record { at = refl; headed = e }, tt)
-  form-owned bound c (Some And_word) [] t e = tt
-  form-owned bound c (Some And_word) (x ∷ []) t e = tt
-  form-owned bound c (Some And_word) (x ∷ y ∷ []) t e = owned-append scope (look bound x) (look bound y) (known bound x) (known bound y)
-  form-owned bound c (Some And_word) (x ∷ y ∷ z ∷ ts) t e = tt
-  form-owned bound c (Some If_word) [] t e = tt
-  form-owned bound c (Some If_word) (x ∷ []) t e = tt
-  form-owned bound c (Some If_word) (x ∷ y ∷ []) t e = owned-map scope (guarded y (λ a. if_term a y)) (λ a w. record { at = w.at; headed = w.headed }) (look bound x) (known bound x)
-  form-owned bound c (Some If_word) (x ∷ y ∷ z ∷ ts) t e = tt
-  form-owned bound c (Some Implies_word) [] t e = tt
-  form-owned bound c (Some Implies_word) (x ∷ []) t e = tt
-  form-owned bound c (Some Implies_word) (x ∷ y ∷ []) t e = owned-map scope (guarded x (implies_term x)) (λ a w. record { at = w.at; headed = w.headed }) (look bound y) (known bound y)
-  form-owned bound c (Some Implies_word) (x ∷ y ∷ z ∷ ts) t e = tt
-  form-owned bound c (Some Pi_word) [] t e = tt
-  form-owned bound c (Some Pi_word) (f ∷ []) t e = owned-map scope (quantified (scope + bound)) (λ a w. record { at = w.at; headed = w.headed }) (look (suc bound) (apply f (At (Name (scope + bound))))) (known (suc bound) (apply f (At (Name (scope + bound)))))
-  form-owned bound c (Some Pi_word) (x ∷ y ∷ ts) t e = tt
-  form-owned bound c (Some True_word) ts t e = tt
-  form-owned bound c (Some Fail_word) ts t e = tt
-  form-owned bound c (Some Cut_word) ts t e = tt
-  form-owned bound c (Some Or_word) ts t e = tt
-  form-owned bound c (Some Sigma_word) ts t e = tt
-  form-owned bound c (Some Equal_word) ts t e = tt
-  form-owned bound c (Some Same_word) ts t e = tt
-  form-owned bound c (Some Var_word) ts t e = tt
-  form-owned bound c (Some Name_word) ts t e = tt
-  form-owned bound c (Some Is_word) ts t e = tt
-  form-owned bound c (Some Less_word) ts t e = tt
-  form-owned bound c (Some Print_word) ts t e = tt
-  form-owned bound c (Some Beta_word) ts t e = tt
-  form-owned bound c (Some Suspend_word) ts t e = tt
-  form-owned bound c (Some Nil_word) ts t e = tt
-  form-owned bound c (Some Cons_word) ts t e = tt
-  form-owned bound c (Some Plus_word) ts t e = tt
-  form-owned bound c (Some Minus_word) ts t e = tt
-  form-owned bound c (Some Times_word) ts t e = tt
-
-  name-owned : (b : Bool) → Owned scope (cond b (Bad NotGoal) (Bad FlexClause))
-  name-owned true = tt
-  name-owned false = tt
-
-  headed-owned : (bound : ℕ) (t : Term) (o : Option Head) (ts : List Term) → head_of t ≡ o → Owned scope (clause_at look scope bound t (headed 0 o ts))
-  headed-owned bound t None ts e = tt
-  headed-owned bound t (Some (Con c)) ts e = form-owned bound c (word_of c) ts t e
-  headed-owned bound t (Some (Int n)) ts e = tt
-  headed-owned bound t (Some (Str s)) ts e = tt
-  headed-owned bound t (Some (Name n)) ts e = name-owned (nat_lt n scope)
-  headed-owned bound t (Some (Bound n)) ts e = tt
-  headed-owned bound t (Some (Var v)) ts e = go (nat_lt v 0)
-    where
-      go : (b : Bool) → Owned scope (clause_at look scope bound t (cond b (shapes.Rigid (Var v) ts) (shapes.Flex v ts)))
-      go true = tt
-      go false = tt
-
-  at-owned : (bound : ℕ) (t : Term) → Owned scope (clause_at look scope bound t (shape 0 t))
-  at-owned bound (Lam b) = tt
-  at-owned bound (At h) = headed-owned bound (At h) (Some h) [] refl
-  at-owned bound (App f a) = headed-owned bound (App f a) (head_of f) (args_of f ++ a ∷ []) refl
-
-read-owned : (n scope bound : ℕ) (t : Term) → Owned scope (read_at n scope bound t)
-read-owned zero scope bound t = at-owned (λ k d. Bad NotGoal) scope (λ k d. tt) bound t
-read-owned (suc n) scope bound t = at-owned (read_at n scope) scope (λ k d. read-owned n scope k d) bound t
-
-own-usable : (g : Graph) (scope : ℕ) (hs : List Hyp) → AllOwn scope (map (assumption_in g) hs) → AllUsable g scope hs
-own-usable g scope [] u = tt
-own-usable g scope (x ∷ xs) u = (record { scope = let at = u.0.at in omega (arith, at); head = u.0.headed }, own-usable g scope xs u.1)
-
 -- the clauses that a term assumes may be assumptions of a goal under as many names
+
+own-usable : (g : Graph) (scope : ℕ) (hs : List Hyp) → AllScoped scope (map (assumption_in g) hs) → AllHeaded (map (assumption_in g) hs) → AllUsable g scope hs
+own-usable g scope [] u v = tt
+own-usable g scope (x ∷ xs) u v = (record { scope = let at : x.depth ≡ scope = u.0 in omega (arith, at); head = v.0 }, own-usable g scope xs u.1 v.1)
+
 pub compiled-context : (g : Graph) (scope : ℕ) (t : Term) (hs : List Hyp) → Good (map (assumption_in g) hs) ≡ assumptions_of scope t → AllHypsValid g hs → IsContextAt g scope hs
-compiled-context g scope t hs e v = record { valid = v; usable = own-usable g scope hs (subst (Owned scope) (sym e) (read-owned (constants t) scope 0 t)) }
+compiled-context g scope t hs e v =
+    let assumed = map (assumption_in g) hs in
+    record { valid = v; usable = own-usable g scope hs (assumed-scoped scope t assumed (sym e)) (assumed-headed scope t assumed (sym e)) }

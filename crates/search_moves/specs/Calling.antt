@@ -1,5 +1,6 @@
 -- Calls of atoms, and the clauses that are tried.
 use Rattle.std.specs.Prelude.{◌≡◌, ℕ, ◌<◌, ◌≤◌, Bool, true, false, cond, nat_eq, suc, List, [], ◌∷◌, length, map, drop, replicate, slice_get, Option, Some, None, unwrap_or}
+use Rattle.std.specs.List.{list_any}
 use Rattle.level_terms.specs.declared.node.TermId.{TermId}
 use Rattle.level_terms.specs.Graph.{Graph}
 use Rattle.level_terms.specs.Reading.{read}
@@ -16,9 +17,11 @@ use Rattle.ref_terms.specs.search.Fault.{Judged, Good, Bad}
 use Rattle.clause_key.specs.declared.key.Key.{Key}
 use Rattle.clause_key.specs.declared.key.Key.TheVariants.{Any}
 use Rattle.clause_key.specs.Keys.{key_among}
+use Rattle.hyp_clause.specs.declared.hyp.Hyp.{Hyp}
 use Rattle.hyp_clause.specs.Hyps.{assumption_in}
 use Rattle.ref_terms.specs.search.Candidates.{program_candidates, call_fault}
-use Rattle.ref_terms.specs.search.State.{Candidate, of_program}
+use Rattle.ref_terms.specs.search.Strip.{is_open}
+use Rattle.ref_terms.specs.search.State.{Candidate, Alternative, of_program, of_assumption}
 use Rattle.ref_terms.specs.search.BranchMove.{with_later}
 use Rattle.ref_terms.specs.search.Resolve.{Tried, Fits, Clashes, Breaks, Resolved, resolve, try}
 use Rattle.ref_terms.specs.unification.Unification.{unify}
@@ -88,25 +91,35 @@ HasBroken first_fresh depth ms hs ts g stop = (b : Branch) → BreaksSo (tried_m
 abbrev pub tried_here : Machine → Frame → Option (List Bool) → Candidate → Tried
 tried_here m f modes c = try unify modes (branch_of m) (goal_in m.world.heap f) (rest_of m f) (length m.saved) c
 
--- the clause fits: the branch is the one that it gives, and the later clauses are an alternative
+-- what is left of a call becomes an alternative; where all of it clashes, none may be made
+pub data Leaves (p : Program) (b : Branch) (later : List Candidate) (old new : List Alternative) : Type 0 where
+  left_over : new ≡ with_later b later old → Leaves p b later old new
+  left_out : new ≡ old → list_any (is_open unify p b) later ≡ false → Leaves p b later old new
+
+-- the clause fits: the branch is the one that it gives, and the later clauses are an alternative, unless all of them clash
 pub record HasEntered (p : Program) (old new : Machine) (f : Frame) (modes : Option (List Bool)) (c : Candidate) (later : List Candidate) : Type 0 where
   pub fits : tried_here old f modes c ≡ Fits (branch_of new)
-  pub alternatives : alternatives_of p new ≡ with_later (branch_of old) later (alternatives_of p old)
+  pub alternatives : Leaves p (branch_of old) later (alternatives_of p old) (alternatives_of p new)
 
 -- what is left of a call is an alternative of the world at the mark, if there is anything
 abbrev pub LeavesLater : Program → (old new : Machine) → Mark → (first : ℕ) → Sym → Option Later → Type 0
 LeavesLater p old new mark first c None = alternatives_of p new ≡ alternatives_of p old
 LeavesLater p old new mark first c (Some later) = alternatives_of p new ≡ saved_in p old.world (record { mark = mark; first = first; left = LeftCall c later }) ∷ alternatives_of p old
 
--- what is left after a clause are these candidates
+-- what is left after a clause are these candidates; nothing, where all of them clash
 abbrev pub IsLeftAfter : Program → Branch → Sym → List Candidate → Option Later → Type 0
-IsLeftAfter p b c cs None = cs ≡ []
+IsLeftAfter p b c cs None = list_any (is_open unify p b) cs ≡ false
 IsLeftAfter p b c cs (Some later) = (x : Candidate) × (xs : List Candidate) × (cs ≡ x ∷ xs) × (later_of p b.goals c.0 later ≡ cs)
 
 -- the clauses of the program from this one on, if there is one
 abbrev pub clauses_from : Option ℕ → Option Later
 clauses_from None = None
 clauses_from (Some i) = Some (Clauses i)
+
+-- the clauses from a number on, if there is one that agrees with the key of the call
+abbrev pub left_from : Option ℕ → ℕ → Option ℕ
+left_from None from = None
+left_from (Some i) from = Some from
 
 -- what the reference makes of the clauses of the constant from this number on
 abbrev pub resolved_from : Machine → Frame → List Clause → (c from : ℕ) → Option (List Bool) → Option (Judged Resolved)
@@ -117,7 +130,7 @@ pub record HasResolved (p : Program) (old new : Machine) (f : Frame) (c from : �
   pub resolved : Resolved
   pub found : resolved_from old f p.clauses c from modes ≡ Some (Good resolved)
   pub branch : branch_of new ≡ resolved.branch
-  pub alternatives : alternatives_of p new ≡ with_later (branch_of old) resolved.later (alternatives_of p old)
+  pub alternatives : Leaves p (branch_of old) resolved.later (alternatives_of p old) (alternatives_of p new)
 
 -- what the reference makes of what is left of a call
 abbrev pub resolved_later : Program → Machine → Frame → (c : ℕ) → Later → Option (List Bool) → Option (Judged Resolved)
@@ -128,7 +141,7 @@ pub record HasResolvedLater (p : Program) (old new : Machine) (f : Frame) (c : �
   pub resolved : Resolved
   pub found : resolved_later p old f c later modes ≡ Some (Good resolved)
   pub branch : branch_of new ≡ resolved.branch
-  pub alternatives : alternatives_of p new ≡ with_later (branch_of old) resolved.later (alternatives_of p old)
+  pub alternatives : Leaves p (branch_of old) resolved.later (alternatives_of p old) (alternatives_of p new)
 
 -- the call's constant is a predicate, and has as many arguments
 abbrev pub IsNoFault : Program → Machine → Call → Type 0
@@ -142,6 +155,19 @@ ResolvedStops r Memory = Unit {0}
 -- the key of a call: that of its key argument, where there are as many arguments as modes
 abbrev pub key_of_call : Graph → Call → Key
 key_of_call g call = cond (nat_eq (length call.args.now) (length call.inputs.now)) (key_among call.inputs.now (all_read g call.args.now)) Any
+
+-- a clause clashes with the first goal, whatever its body would have as barrier
+abbrev pub ClashesHere : Machine → Frame → Option (List Bool) → Candidate → Type 0
+ClashesHere m f modes c = (barrier : ℕ) → try unify modes (branch_of m) (goal_in m.world.heap f) (rest_of m f) barrier c ≡ Clashes
+
+-- so does an assumption, at whatever place
+abbrev pub HypClashes : Machine → Frame → Option (List Bool) → Hyp → Type 0
+HypClashes m f modes h = (place : ℕ) → ClashesHere m f modes (of_assumption place (assumption_in m.world.heap h))
+
+-- so does each of them
+abbrev pub AllHypsClash : Machine → Frame → Option (List Bool) → List Hyp → Type 0
+AllHypsClash m f modes [] = Unit {0}
+AllHypsClash m f modes (h ∷ hs) = HypClashes m f modes h × AllHypsClash m f modes hs
 
 -- the loop over the clauses has come to this one: those of the constant before it clash
 pub record IsTrying (p : Program) (m : Machine) (call : Call) (from i : ℕ) : Type 0 where

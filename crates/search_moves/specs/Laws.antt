@@ -7,10 +7,15 @@ use Rattle.pattern_unify.specs.Answers.{ReadsUnder}
 use Rattle.ref_terms.specs.unification.Problem.{Problem}
 use Rattle.ref_terms.specs.search.Program.{Program}
 use Rattle.ref_terms.specs.search.Branch.{bound_branch}
+use Rattle.ref_terms.specs.search.State.{State}
+use Rattle.ref_terms.specs.search.Strip.{IsCounted}
+use Rattle.ref_terms.specs.search.Events.{events}
+use Rattle.ref_terms.specs.unification.Unification.{unify}
 use Rattle.search_moves.specs.declared.frame.Mark.{Mark}
 use Rattle.search_moves.specs.declared.frame.Saved.{Saved}
 use Rattle.search_moves.specs.World.{World, undone, IsWithin, IsFine}
 use Rattle.search_moves.specs.Reading.{branch_in, left_at, saved_in, alternatives_in}
+use Rattle.search_moves.specs.Machine.{IsLean}
 use Rattle.search_moves.specs.Moves.{LeavesRest}
 use Rattle.search_moves.specs.Saved.{AllSaved, Keeps, KeepsNewest}
 
@@ -42,3 +47,7 @@ UnifiedReads = (w w' : World) (first : ℕ) (q : Problem) → IsFine w first →
 abbrev pub GrownReads : Type 0
 GrownReads = (w w' : World) (first : ℕ) → IsSound w.heap → IsFine w first → LeavesRest w w'
     → Grows w.heap w'.heap [] [] → branch_in w' first ≡ record (branch_in w first) { next_var = length w'.heap.depths }
+
+-- a state without its newest alternative, where that is left out, shows the same events, and has its barriers counted too
+abbrev pub LeanStatesShowTheSame : Type 0
+LeanStatesShowTheSame = (p : Program) (s t : State) → IsCounted s → IsLean p s t → IsCounted t × ((n : ℕ) → events unify p n t ≡ events unify p n s)

@@ -1,5 +1,5 @@
 -- What contracts see of a machine, and the state of the reference that it stands for.
-use Rattle.std.specs.Prelude.{◌≡◌, ℕ, ◌<◌, List, [], ◌∷◌, length, map, Option, Some, None}
+use Rattle.std.specs.Prelude.{◌≡◌, ℕ, ◌<◌, false, List, [], ◌∷◌, length, map, Option, Some, None}
 use Rattle.ref_terms.specs.unification.Unification.{unify}
 use Rattle.ref_terms.specs.search.Program.{Program}
 use Rattle.level_terms.specs.declared.node.TermId.{TermId}
@@ -13,6 +13,8 @@ use Rattle.ref_terms.specs.unification.Problem.{Binding}
 use Rattle.ref_terms.specs.search.Formula.{GoalKind}
 use Rattle.ref_terms.specs.search.GoalMove.{kind_move}
 use Rattle.ref_terms.specs.search.Branch.{Goal, Branch, bound_branch}
+use Rattle.ref_terms.specs.search.Renamed as renamed
+use Rattle.ref_terms.specs.search.Strip.{is_kept, BarriersFall}
 use Rattle.ref_terms.specs.search.State as state
 use Rattle.ref_terms.specs.search.State.{Alternative, State, Running, Ended, Over, Move, Moved, Printed, Answered, Faulted, Failure}
 use Rattle.search_moves.specs.declared.frame.Frame.{Frame}
@@ -60,10 +62,25 @@ event_of m event.Answer = Answered (branch_of m)
 event_of m event.Failure = Failure
 event_of m (event.Fault e) = Faulted e
 
--- the machine has made this move
+-- the newest alternative is left out: all its clauses clash, and no goal of the branch counts it, where none of its own goals does
+pub record LeavesOut (p : Program) (s t : State) : Type 0 where
+  pub branch : Branch
+  pub alternative : Alternative
+  pub older : List Alternative
+  pub before : s ≡ Running branch (alternative ∷ older)
+  pub after : t ≡ Running branch older
+  pub clashes : is_kept unify p alternative ≡ false
+  pub uncounted : BarriersFall (length older) (renamed.branch_of alternative).goals → BarriersFall (length older) branch.goals
+
+-- the state as it is, or without its newest alternative
+pub data IsLean (p : Program) (s t : State) : Type 0 where
+  whole : t ≡ s → IsLean p s t
+  leaner : LeavesOut p s t → IsLean p s t
+
+-- the machine has made this move; it may leave an alternative out of which all clauses clash
 pub record HasMoved (p : Program) (move : Move) (e : Event) (m : Machine) : Type 0 where
   pub event : event_of m e ≡ move.event
-  pub state : state_of p m ≡ move.state
+  pub state : IsLean p move.state (state_of p m)
 
 -- a call leaves the alternatives' readings
 abbrev pub LeavesAlternatives : Machine → Machine → Type 0

@@ -11,9 +11,10 @@ ghost use Rattle.ref_terms.specs.search.State.{of_program};
 ghost use Rattle.ref_terms.specs.search.Resolve.{Clashes};
 ghost use Rattle.search_moves.specs.World.{code_nodes};
 ghost use Rattle.search_moves.specs.declared.machine.Phase.TheVariants.{Running};
-ghost use Rattle.search_moves.specs.Machine.{move_of, HasMoved, IsFirst, LeavesAlternatives};
+ghost use Rattle.search_moves.specs.Machine.{branch_of, move_of, HasMoved, IsFirst, LeavesAlternatives};
 ghost use Rattle.search_moves.specs.Moves.{Growing, LeavesRest};
-ghost use Rattle.search_moves.specs.Calling.{IsCall, HasInputs, HasFitted, HasClashed, HasBroken, tried_here, HasEntered, BreaksSo, IsNextClause, HasResolved, resolved_from, ResolvedStops, LeavesLater, IsNoFault, clauses_from, key_of_call};
+ghost use Rattle.search_moves.specs.Calling.{IsCall, HasInputs, HasFitted, HasClashed, HasBroken, tried_here, HasEntered, BreaksSo, IsLeftAfter, HasResolved, resolved_from, ResolvedStops, LeavesLater, IsNoFault, clauses_from, key_of_call};
+ghost use Rattle.search_moves.specs.Calling as spec;
 ghost use Rattle.search_moves.specs.Saved.{AllSaved};
 ghost use Rattle.search_moves.specs.declared.frame.Left.TheVariants as LeftVariants;
 ghost use Rattle.level_terms.specs.Sound.{IsSound};
@@ -44,6 +45,16 @@ pub(crate) fn from_clause(clause: Option<usize>) -> Option<Later>
     match clause {
         None => None,
         Some(i) => Some(Later::Clauses(i)),
+    }
+}
+
+/// The clauses from a number on, where this is the first of them that agrees with the key of a call.
+pub(crate) fn left_from(next: Option<usize>, from: usize) -> Option<usize>
+    ensures { result ≡ spec.left_from next from }
+{
+    match next {
+        None => None,
+        Some(_) => Some(from),
     }
 }
 
@@ -100,8 +111,8 @@ impl Machine {
     }
 
     /// Tries a clause on the call, and answers whether it fits: then its body is made and entered, and
-    /// the later clauses, if there are any, become an alternative. Where it doesn't fit, all is as
-    /// before, and no body was made.
+    /// what is left of the later clauses becomes an alternative. Where it doesn't fit, all is as before,
+    /// and no body was made.
     fn try_clause<C: Clauses>(
         &mut self,
         code: &C,
@@ -112,7 +123,7 @@ impl Machine {
         requires code { (p : Program) × (C.stands (code_nodes self.old.world) code.now p) × (clause < length p.clauses) }
         requires call { IsCall self.old call.now }
         ensures answer { IfOk result (λ b. (p : Program) (k : Clause) (modes : Option (List Bool)) → C.stands (code_nodes self.old.world) code.now p
-            → slice_get p.clauses clause ≡ Some k → IsNextClause p.clauses call.now.pred.0 (suc clause) later → HasInputs call.now modes → MatchBool b
+            → slice_get p.clauses clause ≡ Some k → IsLeftAfter p (branch_of self.old) call.now.pred (program_candidates call.now.pred.0 (suc clause) (drop (suc clause) p.clauses)) (clauses_from later) → HasInputs call.now modes → MatchBool b
             (HasEntered p self.old self.new call.now.goal.now modes (of_program clause k) (program_candidates call.now.pred.0 (suc clause) (drop (suc clause) p.clauses)))
             (tried_here self.old call.now.goal.now modes (of_program clause k) ≡ Clashes)) }
         ensures same { IfOk result (λ b. b ≡ false → self.new ≡ self.old) }
@@ -142,7 +153,7 @@ impl Machine {
     }
 
     /// The key of the call. All is as before.
-    fn key_of(&mut self, call: &Call<'_>) -> Result<Key, AllocError>
+    pub(crate) fn key_of(&mut self, call: &Call<'_>) -> Result<Key, AllocError>
         requires call { IsCall self.old call.now }
         ensures key { IfOk result (λ key. key ≡ key_of_call self.old.world.heap call.now) }
         ensures same { self.new ≡ self.old }
@@ -155,8 +166,47 @@ impl Machine {
 
     /// Tries the clauses of the call's constant from a number on, in order, and answers whether one
     /// fits: then it is as after that clause. Where all clash, all is as before. Those that are bound
-    /// to clash by the key of the call are passed over.
+    /// to clash by the key of the call are passed over, and where no other is left after the clause,
+    /// no alternative is made.
     pub(crate) fn resolve<C: Clauses>(
+        &mut self,
+        code: &C,
+        call: &Call<'_>,
+        key: Key,
+        from: usize,
+    ) -> Result<bool, UnifyStop>
+        requires code { (p : Program) × (C.stands (code_nodes self.old.world) code.now p) }
+        requires call { IsCall self.old call.now }
+        requires key { key ≡ key_of_call self.old.world.heap call.now }
+        ensures answer { IfOk result (λ b. (p : Program) → C.stands (code_nodes self.old.world) code.now p → HasInputs call.now (modes_of p call.now.pred.0) → MatchBool b
+            (HasResolved p self.old self.new call.now.goal.now call.now.pred.0 from (modes_of p call.now.pred.0))
+            (resolved_from self.old call.now.goal.now p.clauses call.now.pred.0 from (modes_of p call.now.pred.0) ≡ None)) }
+        ensures same { IfOk result (λ b. b ≡ false → self.new ≡ self.old) }
+        ensures stops { IfErr result (λ stop. (p : Program) → C.stands (code_nodes self.old.world) code.now p → HasInputs call.now (modes_of p call.now.pred.0)
+            → ResolvedStops (resolved_from self.old call.now.goal.now p.clauses call.now.pred.0 from (modes_of p call.now.pred.0)) stop) }
+        ensures phase { self.new.phase ≡ self.old.phase }
+        ensures code { code_nodes self.new.world ≡ code_nodes self.old.world }
+    {
+        law_disagreeing_clause_clashes();
+        let count = code.clauses();
+        let mut next = code.next_clause(call.pred, key, from);
+        while let Some(clause) = next {
+            let place = clause + 1;
+            let following = code.next_clause(call.pred, key, place);
+            let later = left_from(following, place);
+            match self.try_clause(code, call, clause, later) {
+                Ok(true) => return Ok(true),
+                Ok(false) => {}
+                Err(stop) => return Err(stop),
+            }
+            next = following;
+        }
+        Ok(false)
+    }
+
+    /// Tries the clauses of the call's constant from a number on, and answers whether one fits. Where
+    /// all clash, all is as before.
+    pub(crate) fn resolve_clauses<C: Clauses>(
         &mut self,
         code: &C,
         call: &Call<'_>,
@@ -173,20 +223,8 @@ impl Machine {
         ensures phase { self.new.phase ≡ self.old.phase }
         ensures code { code_nodes self.new.world ≡ code_nodes self.old.world }
     {
-        law_disagreeing_clause_clashes();
-        let count = code.clauses();
         let key = self.key_of(call)?;
-        let mut next = code.next_clause(call.pred, key, from);
-        while let Some(clause) = next {
-            let later = code.later_clause(call.pred, clause);
-            match self.try_clause(code, call, clause, later) {
-                Ok(true) => return Ok(true),
-                Ok(false) => {}
-                Err(stop) => return Err(stop),
-            }
-            next = code.next_clause(call.pred, key, clause + 1);
-        }
-        Ok(false)
+        self.resolve(code, call, key, from)
     }
 
     /// A goal that is an atom of this constant with these arguments.

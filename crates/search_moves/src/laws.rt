@@ -1,7 +1,7 @@
 //! What holds of worlds, alternatives and their readings. Each function does nothing: its contract is
 //! the law.
 
-ghost use Rattle.search_moves.specs.Laws.{KeptAlternativesStay, GrowthKeeps, PoppedReads, DroppedReads, UnifiedReads, GrownReads};
+ghost use Rattle.search_moves.specs.Laws.{KeptAlternativesStay, GrowthKeeps, PoppedReads, DroppedReads, UnifiedReads, GrownReads, LeanStatesShowTheSame};
 
 /// Whatever leaves unchanged what going back to the newest alternative leaves changes no
 /// alternative's reading; and so does each growth of the heap.
@@ -22,4 +22,10 @@ pub fn law_retry()
 pub fn law_branch()
     ensures unified { UnifiedReads }
     ensures grown { GrownReads }
+{}
+
+/// An alternative of which all clauses clash may be left out: the search shows the same, however many
+/// moves it makes, and barriers are still numbers of alternatives that are there.
+pub fn law_lean_states()
+    ensures { LeanStatesShowTheSame }
 {}

@@ -33,6 +33,7 @@ ghost use Rattle.search_moves.specs.Waking.{first_up, AllGoalsAt, WakesOne};
 ghost use Rattle.search_moves.specs.Machine.{Machine, branch_of, alternatives_of, rest_of, IsFirst, LeavesAlternatives, GoesOnSo, StartsWith};
 ghost use Rattle.search_moves.specs.Saved.{newest_frames, AllSaved, HasLeft};
 ghost use Rattle.clause_key.specs.Keys.{key_among};
+ghost use Rattle.clause_key.specs.Seen.{IsSeenAmong};
 ghost use Rattle.ref_terms.specs.search.State.{other_side};
 ghost use Rattle.ref_terms.specs.search.BranchMove.{cut_to, applied_whole};
 ghost use Rattle.ref_terms.specs.declared.path.Choice.TheVariants.{Right as RightSide};
@@ -525,6 +526,14 @@ impl Machine {
         ensures same { self.new ≡ self.old }
     {
         self.stage.key_among(inputs, args, depth)
+    }
+
+    /// The key among the arguments of an atom of which these are inputs, as far as a look tells.
+    pub(crate) fn seen_among(&self, inputs: &[bool], atom: TermId) -> Key
+        requires { atom.index < length self.now.world.heap.nodes }
+        ensures { IsSeenAmong result inputs.now (args_of (read self.now.world.heap atom.index names)) }
+    {
+        self.stage.seen_among(inputs, atom)
     }
 
     /// Makes a clause's variables and its head in the heap.

@@ -26,7 +26,9 @@ ghost use Rattle.search_moves.specs.Moves.{LeavesRest, Growing};
 ghost use Rattle.suspend.specs.Store.{joins, leaves, stored, stored_at, is_stored};
 ghost use Rattle.suspend.specs.Keyed.{first_awake, Keyed};
 ghost use Rattle.search_moves.specs.Reading.{constraint_in};
+ghost use Rattle.ref_terms.specs.unification.Spine.{args_of};
 ghost use Rattle.clause_key.specs.Keys.{key_among};
+ghost use Rattle.clause_key.specs.Seen.{IsSeenAmong};
 
 use crate::clauses::{Clauses, Instance};
 use crate::frame::{Frame, Mark};
@@ -34,7 +36,7 @@ use crate::opening::applied_to_variable;
 use crate::visitor::Visitor;
 use beta_fragment::{UnifyStop, Whnf, applied_to_level, whnf};
 use builtins::{Builtin, Events, call_builtin};
-use clause_key::{Key, key_of_call};
+use clause_key::{Key, key_of_call, seen_among};
 use hyp_clause::{Hyp, HypStop, Hyps, compile_hyp, hyp_body_of, hyp_head_of};
 use hyp_context::Context;
 use input_match::match_arg;
@@ -227,6 +229,14 @@ impl Stage {
         let key = key_of_call(self.alloc, &mut self.heap, inputs, args, depth);
         self.undo(before);
         key
+    }
+
+    /// The key among the arguments of an atom of which these are inputs, as far as a look tells.
+    pub(crate) fn seen_among(&self, inputs: &[bool], atom: TermId) -> Key
+        requires { atom.index < length self.now.heap.nodes }
+        ensures { IsSeenAmong result inputs.now (args_of (read self.now.heap atom.index names)) }
+    {
+        seen_among(&self.heap, inputs, atom)
     }
 
     /// Makes a clause's variables and its head in the heap.

@@ -9,7 +9,7 @@ use Rattle.search_moves.specs.declared.frame.Later.TheVariants.{Assumptions}
 use Rattle.search_moves.specs.World.{code_nodes}
 use Rattle.search_moves.specs.Reading.{later_of}
 use Rattle.search_moves.specs.Machine.{branch_of}
-use Rattle.search_moves.specs.Calling.{IsCall, HasEntered, BreaksSo, tried_here, resolved_later}
+use Rattle.search_moves.specs.Calling.{key_of_call, IsCall, HasEntered, BreaksSo, tried_here, resolved_later}
 use Rattle.search_moves.proofs.SolveLemmas.{picked-true, picked-false}
 use Rattle.search_moves.proofs.AssumedLemmas.{drop-step}
 use Rattle.search_moves.proofs.AssumeTries.{assumed-clashes, assumed-fits, assumed-breaks, assumed-ends, resolved-before, stops-before}
@@ -40,7 +40,7 @@ returns-in-Ok-true-clause-answer g c = λ p stands inputs.
     let new = c.try_assumption.new.self in
     let inv = c.loop-hyp.invariant in
     let there = subst (λ (ns : List Node). g.C.Clauses.stands ns c.args.code.now p) (sym (ap (λ m. code_nodes m.world) inv.0)) stands in
-    let entered = picked-true _ _ c.in-Ok-true.field-0 c.in-Ok-true.field-0-test (c.in-Ok-true.ensures.answer p modes there inputs) in
+    let entered = picked-true _ _ c.in-Ok-true.field-0 c.in-Ok-true.field-0-test (c.in-Ok-true.ensures.answer p modes there refl inputs) in
     let here = subst (λ m. HasEntered p m new f modes (of_assumption i (assumption_in m.world.heap h)) (later_of p (branch_of m).goals pred (Assumptions (suc i) others))) inv.0 entered in
     resolved-before p m0 new f pred modes c.args.place i c.args.hyps c.args.hyps (inv.2 p stands inputs)
     (assumed-fits p m0 f c.requires.call.first pred modes i h others c.args.hyps others (sym inv.1 ∙ c.in-Some.ensures.some) new here)
@@ -87,7 +87,7 @@ loop-hyp-preserved g c =
       λ p stands inputs.
           let modes = modes_of p pred in
           let known = subst (λ (ns : List Node). g.C.Clauses.stands ns c.args.code.now p) (sym (ap (λ m. code_nodes m.world) inv.0)) stands in
-          let clash = picked-false _ _ c.in-Ok-false.field-0 c.in-Ok-false.field-0-test (c.in-Ok-false.ensures.answer p modes known inputs) in
+          let clash = picked-false _ _ c.in-Ok-false.field-0 c.in-Ok-false.field-0-test (c.in-Ok-false.ensures.answer p modes known refl inputs) in
           inv.2 p stands inputs
           ∙ assumed-clashes p m0 f c.requires.call.first pred modes i h others c.args.hyps c.args.hyps there (subst (λ m. tried_here m f modes (of_assumption i (assumption_in m.world.heap h)) ≡ Clashes) inv.0 clash)
           ∙ ap (λ n. resolved_later p m0 f pred (Assumptions n c.args.hyps) modes) step,
@@ -110,3 +110,6 @@ returns-clause-phase g c = ap (λ m. m.phase) c.loop-hyp.invariant.0
 
 pub returns-clause-code : goal.returns-clause-code
 returns-clause-code g c = ap (λ m. code_nodes m.world) c.loop-hyp.invariant.0
+
+pub try_assumption-requires-clause-key : goal.try_assumption-requires-clause-key
+try_assumption-requires-clause-key g c = c.requires.key ∙ ap (λ m. key_of_call m.world.heap c.args.call.now) (sym c.loop-hyp.invariant.0)

@@ -13,9 +13,8 @@ use Rattle.search_moves.specs.declared.frame.Later.TheVariants.{Assumptions}
 use Rattle.search_moves.specs.Saved.{AllSaved, IsLaterOf}
 use Rattle.search_moves.specs.Reading.{later_of}
 use Rattle.search_moves.specs.Machine.{branch_of}
-use Rattle.search_moves.specs.Calling.{HasFitted, HasClashed, HasBroken, IsLeftAfter}
+use Rattle.search_moves.specs.Calling.{HasInputs, HasFitted, HasClashed, HasBroken, IsLeftAfter}
 use Rattle.search_moves.proofs.AssumedLemmas.{drop-step, hyp-there}
-use Rattle.search_moves.proofs.CallMoves.{assumed-first}
 use Rattle.search_moves.proofs.FrameLemmas.{all-valid-grown}
 use Rattle.search_moves.proofs.SolveLemmas.{picked-true, picked-false}
 use Rattle.search_moves.proofs.GrowLemmas.{if-some}
@@ -58,8 +57,7 @@ leave_rest-requires g c =
     (λ l is. saved-both c.args.self.now.world c.assumed_instance.new.self.world c.fit.new.self.world (at l) c.args.self.now.saved c.fit.new.self.saved (c.fit.ensures.saved ∙ c.assumed_instance.ensures.saved)
     (c.here-first.ensures.can_go_back (LeftCall pred l) (call-left c.args.self.now call l c.requires.call is))
     c.assumed_instance.ensures.grows c.assumed_instance.ensures.rest c.fit.ensures.grows c.fit.ensures.rest)
-    (if-some c.in_ok-later.later (λ l. (hs : List Hyp) → c.args.others.now ≡ drop (suc c.args.place) (hyps_for pred.0 hs) → IsLaterOf hs pred l) (IsLaterOf call.goal.now.context pred)
-    (λ l h. h call.goal.now.context (sym (drop-step c.args.place (hyps_for c.args.call.now.pred.0 c.args.call.now.goal.now.context) c.args.hyp.now c.args.others.now c.requires.left))) c.in_ok-later.ensures.left)
+    c.in_ok-later.ensures.left
 
 pub enter_all-requires-clause-first : goal.enter_all-requires-clause-first
 enter_all-requires-clause-first g c =
@@ -75,7 +73,7 @@ enter_all-requires-clause-body g c =
     (all-valid-grown c.assumed_instance.new.self.world.heap c.fit.new.self.world.heap c.fit.ensures.grows.before c.fit.ensures.grows.after d c.fit.ensures.sound c.fit.ensures.grows.grows body c.in_ok-made.ensures.made.body_valid))
 
 pub returns-in-Ok-false-clause-answer : goal.returns-in-Ok-false-clause-answer
-returns-in-Ok-false-clause-answer g c = λ p modes stands inputs.
+returns-in-Ok-false-clause-answer g c = λ p modes stands known inputs.
     let call = c.args.call.now in
     let heads = c.in_ok-made.made.heads.items in
     let candidate = of_assumption c.args.place (assumption_in c.args.self.now.world.heap c.args.hyp.now) in
@@ -105,7 +103,7 @@ returns-in-Err-clause-stops g c = λ modes inputs.
     c.in-Err.ensures.stops))
 
 pub returns-clause-answer : goal.returns-clause-answer
-returns-clause-answer g c = λ p modes stands inputs.
+returns-clause-answer g c = λ p modes stands known inputs.
     let m0 = c.args.self.now in
     let m1 = c.assumed_instance.new.self in
     let m2 = c.fit.new.self in
@@ -121,13 +119,12 @@ returns-clause-answer g c = λ p modes stands inputs.
     (subst (λ hs. HasFitted c.next_var-first_fresh.result.index call.goal.now.depth call.inputs.now hs call.args.now m1 m2) c.as_slice.ensures.value
     (picked-true _ _ c.in-Ok-true.field-0 c.in-Ok-true.field-0-test c.in-Ok-true.ensures.answer)) in
     let at : Later → Saved = λ l. record { mark = c.here-first.result.0; first = c.here-first.result.1; left = LeftCall pred l } in
-    let others = sym (drop-step c.args.place (hyps_for c.args.call.now.pred.0 c.args.call.now.goal.now.context) c.args.hyp.now c.args.others.now c.requires.left) in
     let can : IfSome c.in_ok-later.later (λ l. AllSaved m0.world (at l ∷ m0.saved)) =
-    if-some c.in_ok-later.later (λ l. (hs : List Hyp) → c.args.others.now ≡ drop (suc c.args.place) (hyps_for pred.0 hs) → IsLaterOf hs pred l) (λ l. AllSaved m0.world (at l ∷ m0.saved))
-    (λ l h. c.here-first.ensures.can_go_back (LeftCall pred l) (call-left m0 call l c.requires.call (h call.goal.now.context others))) c.in_ok-later.ensures.left in
+    if-some c.in_ok-later.later (IsLaterOf call.goal.now.context pred) (λ l. AllSaved m0.world (at l ∷ m0.saved))
+    (λ l h. c.here-first.ensures.can_go_back (LeftCall pred l) (call-left m0 call l c.requires.call h)) c.in_ok-later.ensures.left in
     let cs = later_of p (branch_of m0).goals pred.0 (Assumptions (suc c.args.place) c.args.others.now) in
     let left : IsLeftAfter p (branch_of m0) pred cs c.in_ok-later.later =
-    c.in_ok-later.ensures.after _ p (branch_of m0) m0.world.heap call.goal.now.context stands (assumed-first m0 call.goal.now c.requires.call.first) others in
+    c.in_ok-later.ensures.after _ p stands (subst (HasInputs call) known inputs) in
     record {
       fits = clause-fits m0 m1 call candidate heads has m2 c.fit.ensures.sound fitted c.fit.ensures.grows c.fit.ensures.rest c.fit.ensures.first modes inputs (all_read m2.world.heap body)
           (body-early m0 m1 call candidate heads has m2 c.fit.ensures.sound fitted c.fit.ensures.grows c.fit.ensures.rest c.fit.ensures.first body c.in_ok-made.ensures.made.body c.in_ok-made.ensures.made.body_valid) _
@@ -138,3 +135,19 @@ returns-clause-answer g c = λ p modes stands inputs.
           c.here-first.ensures.mark c.here-first.ensures.first can
           c.assumed_instance.ensures.grows c.assumed_instance.ensures.rest c.fit.ensures.grows c.fit.ensures.rest (c.assumed_instance.ensures.alternatives p) (c.fit.ensures.alternatives p) (c.in_ok-leave_rest.ensures.alternatives p) (c.enter_all.ensures.alternatives p);
     }
+
+pub passes_over-requires-clause-valid : goal.passes_over-requires-clause-valid
+passes_over-requires-clause-valid g c =
+    let f = c.args.call.now.goal.now in
+    (hyp-there c.args.self.now.world.heap f.depth c.args.call.now.pred.0 c.args.place f.context c.args.hyp.now c.args.others.now c.requires.call.first.context c.requires.left).0
+
+pub passes_over-requires-clause-usable : goal.passes_over-requires-clause-usable
+passes_over-requires-clause-usable g c =
+    let f = c.args.call.now.goal.now in
+    (hyp-there c.args.self.now.world.heap f.depth c.args.call.now.pred.0 c.args.place f.context c.args.hyp.now c.args.others.now c.requires.call.first.context c.requires.left).1
+
+pub returns-then-passes_over-clause-answer : goal.returns-then-passes_over-clause-answer
+returns-then-passes_over-clause-answer g c = λ p modes stands known inputs. c.passes_over.ensures c.if-passes_over.true modes inputs c.args.place (length c.args.self.now.saved)
+
+pub left_after-requires-clause-others : goal.left_after-requires-clause-others
+left_after-requires-clause-others g c = sym (drop-step c.args.place (hyps_for c.args.call.now.pred.0 c.args.call.now.goal.now.context) c.args.hyp.now c.args.others.now c.requires.left)

@@ -10,7 +10,6 @@ use Rattle.search_moves.specs.declared.frame.Later.TheVariants.{Clauses}
 use Rattle.ref_terms.specs.search.State.{of_program}
 use Rattle.ref_terms.specs.search.Candidates.{program_candidates}
 use Rattle.search_moves.specs.Saved.{AllSaved}
-use Rattle.search_moves.proofs.CallLemmas.{after-clause}
 use Rattle.search_moves.specs.World.{code_nodes}
 use Rattle.search_moves.specs.Machine.{Machine, branch_of}
 use Rattle.search_moves.specs.Instances.{ReadAsVariables}
@@ -115,7 +114,7 @@ returns-clause-answer g c = λ p k modes stands is next inputs.
     subst (λ o. IfSome o (λ l. AllSaved c.args.self.now.world (at l ∷ c.args.self.now.saved))) (sym c.from_clause-rest.ensures)
     (each-clause (λ l. AllSaved c.args.self.now.world (at l ∷ c.args.self.now.saved)) (λ j. c.here-first.ensures.can_go_back (LeftCall pred (Clauses j)) (call-left c.args.self.now c.args.call.now (Clauses j) c.requires.call tt)) c.args.later) in
     let left : IsLeftAfter p (branch_of c.args.self.now) pred (program_candidates pred.0 (suc c.args.clause) (drop (suc c.args.clause) p.clauses)) c.from_clause-rest.result =
-    subst (IsLeftAfter p (branch_of c.args.self.now) pred (program_candidates pred.0 (suc c.args.clause) (drop (suc c.args.clause) p.clauses))) (sym c.from_clause-rest.ensures) (after-clause p (branch_of c.args.self.now) pred (suc c.args.clause) c.args.later next) in
+    subst (IsLeftAfter p (branch_of c.args.self.now) pred (program_candidates pred.0 (suc c.args.clause) (drop (suc c.args.clause) p.clauses))) (sym c.from_clause-rest.ensures) next in
     let m0 = c.args.self.now in
     let m1 = c.instance.new.self in
     let m2 = c.fit.new.self in

@@ -2,7 +2,7 @@ use Rattle.std.proofs.Common.{◌∙◌, sym, ap, subst}
 use Rattle.ref_terms.specs.unification.Unification.{unify}
 use Rattle.ref_terms.specs.search.Next.{retry}
 use Rattle.ref_terms.specs.search.Program.{modes_of}
-use Rattle.search_moves.specs.Calling.{resolved_later, ResolvedStops}
+use Rattle.search_moves.specs.Calling.{Leaves, resolved_later, ResolvedStops}
 use Rattle.search_moves.specs.Machine.{branch_of, alternatives_of}
 use Rattle.search_moves.proofs.SolveLemmas.{picked-true, picked-false}
 use Rattle.search_moves.proofs.CallMoves.{retry-fits, retry-fails, retry-faults}
@@ -14,7 +14,7 @@ returns-in-Ok-true-clause-moved g c = λ p stands inputs.
     let call = c.args.call.now in
     let r = picked-true _ _ c.in-Ok-true.field-0 c.in-Ok-true.field-0-test (c.in-Ok-true.ensures.answer p stands inputs) in
     retry-fits p c.args.self.now c.set_phase.new.self call.goal.now call.pred c.args.later.now c.requires.call.first c.requires.call.head
-    (record { resolved = r.resolved; found = r.found; branch = ap branch_of c.set_phase.ensures ∙ r.branch; alternatives = ap (alternatives_of p) c.set_phase.ensures ∙ r.alternatives })
+    (record { resolved = r.resolved; found = r.found; branch = ap branch_of c.set_phase.ensures ∙ r.branch; alternatives = subst (Leaves p (branch_of c.args.self.now) r.resolved.later (alternatives_of p c.args.self.now)) (sym (ap (alternatives_of p) c.set_phase.ensures)) r.alternatives })
     (ap (λ z. z.phase) c.set_phase.ensures)
 
 pub returns-in-Ok-false-clause-moved : goal.returns-in-Ok-false-clause-moved
