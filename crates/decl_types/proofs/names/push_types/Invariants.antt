@@ -1,0 +1,6 @@
+use Rattle.std.proofs.Common.{◌≡◌, ◌++◌, map, take}
+use Rattle.decl_types.specs.TypeRules.{type_name}
+use Rattle.decl_types.proofs.names.push_types.Given as goal
+
+abbrev pub invariant-loop-name : goal.invariant-loop-name
+invariant-loop-name l = l.names.items ≡ l.fn.names.items ++ map type_name (take l.name-index l.declared)

@@ -1,0 +1,6 @@
+use Rattle.std.proofs.Common.{◌≡◌, take, flat_map}
+use Rattle.decl_types.specs.TypeRules.{typed_names}
+use Rattle.decl_types.proofs.names.typed_names.Given as goal
+
+abbrev pub invariant-loop-decl : goal.invariant-loop-decl
+invariant-loop-decl l = l.names.items ≡ flat_map typed_names (take l.decl-index l.decls)

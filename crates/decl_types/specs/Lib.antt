@@ -1,0 +1,4 @@
+pub mod DeclaredTypes
+pub mod Reserved
+pub mod TypeRules
+pub mod inside

@@ -1,0 +1,4 @@
+pub mod Inference
+pub mod Inferred
+pub mod Typings
+pub mod inside
