@@ -6,6 +6,8 @@ use Rattle.level_terms.specs.declared.node.Change.{Change}
 use Rattle.level_terms.specs.Graph.{Graph}
 use Rattle.level_terms.specs.Growth.{Grows}
 use Rattle.level_terms.specs.Sound.{IsSound}
+use Rattle.level_terms.specs.Reading.{read}
+use Rattle.level_terms.specs.Valid.{IsValid}
 use Rattle.level_terms.proofs.ValidLemmas.{growth_keeps_readings, growth_keeps_valid}
 use Rattle.ref_terms.specs.terms.Term.{Term}
 use Rattle.ref_terms.specs.unification.Problem as problem
@@ -15,7 +17,7 @@ use Rattle.beta_fragment.specs.Names.{names}
 use Rattle.beta_fragment.specs.HeadForm.{all_read, AllValidAt}
 use Rattle.level_terms.proofs.ReadLemmas.{valid-below}
 use Rattle.pattern_unify.specs.declared.equation.Equation.{Equation}
-use Rattle.pattern_unify.specs.inside.Equations.{equation_at, equations_at, problem_at, arguments_of, IsValidEquation, AllValidEquations}
+use Rattle.pattern_unify.specs.inside.Equations.{equation_at, equations_at, problem_at, arguments_of, IsValidEquation, AllValidEquations, IsSameEquation}
 
 -- the equation that was put last is the first one
 pub equations-last : (g : Graph) (work : List Equation) (e : Equation) → equations_at g (work ++ e ∷ []) ≡ equation_at g e ∷ equations_at g work
@@ -92,6 +94,18 @@ equation_valid-kept g h r s e sound w v =
 pub equations_valid-kept : (g h : Graph) (r s : List Change) (work : List Equation) → IsSound g → Grows g h r s → AllValidEquations g work → AllValidEquations h work
 equations_valid-kept g h r s [] sound w v = tt
 equations_valid-kept g h r s (e ∷ work) sound w v = (equation_valid-kept g h r s e sound w v.0, equations_valid-kept g h r s work sound w v.1)
+
+-- an equation whose sides were made anew under the same depth, one after the other
+pub equation-renewed : (f g h : Graph) (e r : Equation) → IsSound f → IsSound g → Grows f g [] [] → Grows g h [] [] → IsValidEquation f e → read g r.left.index names ≡ read f e.left.index names → IsValid g r.left.index e.depth →
+    read h r.right.index names ≡ read g e.right.index names → IsValid h r.right.index e.depth → IsSameEquation f h e (record { left = r.left; right = r.right; depth = e.depth })
+equation-renewed f g h e r sound sound' w x v l p q k =
+    let there = valid-below g r.left.index e.depth p in
+    let left : read h r.left.index names ≡ read f e.left.index names = growth_keeps_readings g h r.left.index names sound' x there ∙ l in
+    let right : read h r.right.index names ≡ read f e.right.index names = q ∙ growth_keeps_readings f g e.right.index names sound w (valid-below f e.right.index e.depth v.1) in
+    record {
+      same = λ i. record { names = e.depth; left = left i; right = right i };
+      valid = (growth_keeps_valid g h [] [] r.left.index e.depth sound' x there p, k);
+    }
 
 -- the equations of arguments
 pub arguments-valid : (g : Graph) (d : ℕ) (xs ys : List TermId) → AllValidAt g xs d → AllValidAt g ys d → AllValidEquations g (arguments_of d xs ys)

@@ -1,5 +1,5 @@
 -- Turns that bind variables.
-use Rattle.std.proofs.Common.{◌≡◌, ℕ, suc, ◌<◌, ◌++◌, List, [], ◌∷◌, length, map, nat_eq, cond, Bool, false, Option, Some, Result, Ok, Err, IfOk, refl, sym, ap, ap₂, ◌∙◌, subst, eq-eqb}
+use Rattle.std.proofs.Common.{◌≡◌, ℕ, suc, ◌<◌, ◌++◌, List, [], ◌∷◌, length, map, nat_eq, cond, Bool, false, Option, Some, Result, Ok, Err, IfOk, refl, sym, ap, ap₂, ◌∙◌, subst, eq-eqb, ne_eqb, ◌≤◌, arith}
 use Rattle.level_terms.specs.declared.node.Change.{Change}
 use Rattle.level_terms.specs.Graph.{Graph}
 use Rattle.level_terms.specs.Growth.{Grows}
@@ -10,7 +10,7 @@ use Rattle.level_terms.proofs.ValidLemmas.{growth_keeps_readings}
 use Rattle.ref_terms.specs.terms.Term.{Term}
 use Rattle.ref_terms.specs.terms.Instance.{inst}
 use Rattle.ref_terms.specs.unification.Problem as problem
-use Rattle.ref_terms.specs.unification.Problem.{Problem, Step, Goes, Ends, Clashed}
+use Rattle.ref_terms.specs.unification.Problem.{Problem, Binding, Step, Goes, Ends, Clashed}
 use Rattle.ref_terms.specs.unification.Closing.{close_all, keeping}
 use Rattle.ref_terms.specs.unification.Pattern.{SpineName, of_name}
 use Rattle.ref_terms.specs.unification.Positions.{agreeing, shared, positions_of, all_but}
@@ -21,12 +21,17 @@ use Rattle.beta_fragment.specs.Names.{names}
 use Rattle.level_terms.proofs.ReadLemmas.{valid-below}
 use Rattle.pattern_unify.specs.declared.equation.Equation.{Equation}
 use Rattle.pattern_unify.specs.declared.equation.Turn.{Turn}
-use Rattle.pattern_unify.specs.Bound.{IsBound}
-use Rattle.pattern_unify.specs.inside.Equations.{equation_at, equations_at, problem_at, IsValidEquation, AllValidEquations}
+use Rattle.level_terms.specs.declared.node.VarId.{VarId}
+use Rattle.pattern_unify.specs.declared.offence.Verdict as verdict
+use Rattle.pattern_unify.specs.declared.offence.Verdict.TheVariants.{Dropped}
+use Rattle.pattern_unify.specs.Bound.{IsBound, LeavesOthers, LeavesFrozen}
+use Rattle.pattern_unify.specs.inside.Verdicts.{DropsAssignable}
+use Rattle.pattern_unify.specs.inside.Equations.{equation_at, equations_at, problem_at, IsValidEquation, AllValidEquations, ComesAgain}
 use Rattle.pattern_unify.specs.inside.Turns.{GoesOn, IsTurn}
 use Rattle.pattern_unify.proofs.BoundEquations.{goes-bound, goes-bound_twice}
-use Rattle.pattern_unify.proofs.EquationLemmas.{equations-last, equations_valid-last, first-kept}
+use Rattle.pattern_unify.proofs.EquationLemmas.{equations-last, equations_valid-last, equations_valid-kept, equations-kept, first-kept}
 use Rattle.pattern_unify.proofs.TurnLemmas.{goes-same, turn-same, seen-after}
+use Rattle.pattern_unify.proofs.KeptLemmas.{grown-nodes, frozen-grown, frozen-trans}
 use Rattle.pattern_unify.proofs.NamedSpines.{names-length, names-of_names}
 
 -- the step on two variables with pattern spines, by tests that were made
@@ -79,6 +84,26 @@ drops g h r s v ns t work more e w y i n sound grown q b d l k f =
     (goes-bound g h r s y (keeping n (all_but i n) (length g.depths)) (suc (length g.depths)) more (equation_at g e ∷ equations_at g work) sound grown b d
     (subst (AllValidEquations g) (sym f) (equations_valid-last g work e l k))
     (ap (equations_at g) f ∙ equations-last g work e))
+
+-- the same where an equation that means the same comes in its place
+pub drops-again : (g h k : Graph) (r s : List Change) (step : List Binding → Step) (work later : List Equation) (e : Equation) → IsSound g → IsSound h → Grows g h r s → Grows h k [] [] → AllValidEquations g work → ComesAgain h k e work later →
+    GoesOn g h step (work ++ e ∷ []) → GoesOn g k step later
+drops-again g h k r s step work later e sound sound' w x l a goes =
+    let kept = equations_valid-kept g h r s work sound w l in
+    let equations : equations_at h (work ++ e ∷ []) ≡ equations_at k later =
+    equations-last h work e ∙ ap₂ (λ (d : problem.Equation) (ds : List problem.Equation). d ∷ ds) (sym a.same.same) (sym (equations-kept h k work sound' x kept)) ∙ sym (ap (equations_at k) a.pushed ∙ equations-last k work a.next) in
+    record {
+      made = goes.made;
+      steps = λ bs. goes.steps bs ∙ ap₂ (λ (q : ℕ) (es : List problem.Equation). Goes (record { next_var = q; equations = es; bindings = goes.made ++ bs })) (sym (ap length a.variables)) equations;
+      readings = λ t env b. growth_keeps_readings h k t env sound' x (let more = grown-nodes g h r s w in omega (arith, b, more)) ∙ goes.readings t env b;
+      valid = subst (AllValidEquations k) (sym a.pushed) (equations_valid-last k work a.next (equations_valid-kept h k [] [] work sound' x kept) a.same.valid);
+    }
+
+-- no frozen variable gets a value where an assignable one loses a position
+pub frozen-dropped : (g h k : Graph) (m : ℕ) (r : verdict.Verdict) (y : VarId) (i n : ℕ) → r ≡ Dropped y i n → DropsAssignable g m r → LeavesOthers y.index g h → Grows h k [] [] → LeavesFrozen m g k
+frozen-dropped g h k m r y i n q d others w =
+    let low : m ≤ y.index = (subst (DropsAssignable g m) q d).1 in
+    frozen-trans g h k m (λ v l. others v (ne_eqb y.index v (omega (arith, l, low)))) (frozen-grown h k m w)
 
 -- a turn whose step looks at a term, at the first equation and at the others
 abbrev pub TurnBy : (F : Term → problem.Equation → List problem.Equation → Problem → Step) → (g new : Graph) → (t : ℕ) → Equation → (work left : List Equation) → Turn → Type 0

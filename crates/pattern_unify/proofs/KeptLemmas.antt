@@ -45,3 +45,7 @@ bound-after f g h v value other s w e b = λ t env l.
 -- the notes are those of the later call
 pub grows-after : (f g h : Graph) (s t : List Change) → Grows f g [] [] → Grows g h s t → Grows f h s t
 grows-after f g h s t w k = grows-trans f g h s s t (grows-notes f g s w) k
+
+-- the notes are those of the earlier call
+pub grows-before : (f g h : Graph) (s t : List Change) → Grows f g s t → Grows g h [] [] → Grows f h s t
+grows-before f g h s t w k = grows-trans f g h s t t w (grows-notes g h t k)

@@ -1,6 +1,6 @@
 //! A unification variable against a term, and against another one.
 
-ghost use Rattle.std.specs.Prelude.{◌≡◌, ◌≤◌, ◌∷◌, [], ◌++◌, ℕ, false, List, Some, map, option_map, cond, nat_eq, IfOk, IfSome};
+ghost use Rattle.std.specs.Prelude.{◌≡◌, ◌≤◌, ◌∷◌, [], ◌++◌, ℕ, false, List, Some, map, option_map, cond, nat_eq, IfOk, OnOk, IfSome};
 ghost use Rattle.level_terms.specs.Graph.{value_in};
 ghost use Rattle.level_terms.specs.Growth.{Grows};
 ghost use Rattle.level_terms.specs.Reading.{read};
@@ -15,7 +15,7 @@ ghost use Rattle.beta_fragment.specs.Names.{names, AllBelow, AreDistinct};
 ghost use Rattle.beta_fragment.specs.HeadForm.{all_read, AllValidAt};
 ghost use Rattle.pattern_unify.specs.Bound.{IsOpen, LeavesFrozen, NamesAmong};
 ghost use Rattle.pattern_unify.specs.declared.offence.Verdict.TheVariants as verdicts;
-ghost use Rattle.pattern_unify.specs.inside.Equations.{equation_at, equations_at, problem_at, IsValidEquation, AllValidEquations};
+ghost use Rattle.pattern_unify.specs.inside.Equations.{equation_at, equations_at, problem_at, IsValidEquation, AllValidEquations, ComesAgain};
 ghost use Rattle.pattern_unify.specs.inside.Turns.{IsTurn};
 ghost use Rattle.pattern_unify.specs.inside.Verdicts.{verdict_of, DropsAssignable};
 
@@ -24,6 +24,7 @@ use crate::binding::bind;
 use crate::equation::{Equation, Turn};
 use crate::meeting::{drop_position, keep_agreeing, meet};
 use crate::offence::{Verdict, offence, offence_in_scope};
+use crate::renewing::renewed;
 use crate::spine::pattern_names;
 use level_terms::{Change, Heap, TermId, VarId};
 use ref_terms::Fault;
@@ -189,10 +190,29 @@ fn not_bound(
         Verdict::Foreign => Ok(Turn::Clash),
         Verdict::Dropped(other, position, arity) => {
             drop_position(alloc, heap, trail, other, position, arity)?;
-            work.push(e)?;
+            heap.is_sound();
+            again(alloc, heap, work, e, arity)?;
             Ok(Turn::Goes)
         }
     }
+}
+
+/// Puts the equation back, where a variable in it has just lost one of so many positions.
+fn again(
+    alloc: Global,
+    heap: &mut Heap,
+    work: &mut Vec<Equation>,
+    e: Equation,
+    arity: usize,
+) -> Result<(), AllocError>
+    requires { IsValidEquation heap.old e }
+    ensures again { OnOk result (ComesAgain heap.old heap.new e work.old.items work.new.items) }
+    ensures grows { Grows heap.old heap.new [] [] }
+{
+    heap.is_sound();
+    let next = renewed(alloc, heap, e, arity)?;
+    work.push(next)?;
+    Ok(())
 }
 
 /// A variable whose spine has the names of all levels in scope, in order, against a term that it

@@ -15,6 +15,7 @@ mod offence;
 mod own;
 mod positions;
 mod reaching;
+mod renewing;
 mod rigid;
 mod settled;
 mod side;

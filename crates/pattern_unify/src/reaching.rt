@@ -151,7 +151,11 @@ fn is_own(heap: &Heap, v: VarId, node: TermId) -> bool
 
 /// Puts the nodes that are reached from a node at once onto the work list, but for those of a node in
 /// which neither a variable nor an applied abstraction stands: that one isn't looked into.
-fn push_parts(heap: &Heap, node: TermId, work: &mut Vec<TermId>) -> Result<(), AllocError>
+pub(crate) fn push_parts(
+    heap: &Heap,
+    node: TermId,
+    work: &mut Vec<TermId>,
+) -> Result<(), AllocError>
     requires { node.index < length heap.now.nodes }
     ensures { OnOk result (IsLeft heap.now node.index work.old.items work.new.items) }
 {

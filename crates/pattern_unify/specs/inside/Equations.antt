@@ -1,5 +1,5 @@
 -- The equations that are still to be solved, as the rules have them.
-use Rattle.std.specs.Prelude.{ℕ, List, [], ◌∷◌, map, reverse, length}
+use Rattle.std.specs.Prelude.{◌≡◌, ℕ, List, [], ◌∷◌, ◌++◌, map, reverse, length}
 use Rattle.level_terms.specs.declared.node.TermId.{TermId}
 use Rattle.level_terms.specs.Graph.{Graph}
 use Rattle.level_terms.specs.Reading.{read}
@@ -29,6 +29,18 @@ IsValidEquation g e = IsValid g e.left.index e.depth × IsValid g e.right.index 
 abbrev pub AllValidEquations : Graph → List Equation → Type 0
 AllValidEquations g [] = Unit {0}
 AllValidEquations g (e ∷ work) = IsValidEquation g e × AllValidEquations g work
+
+-- an equation in a heap that gained nodes means what another one meant
+pub record IsSameEquation (old new : Graph) (e r : Equation) : Type 0 where
+  pub same : equation_at new r ≡ equation_at old e
+  pub valid : IsValidEquation new r
+
+-- such an equation is put onto the work, and the heap gained nodes alone
+pub record ComesAgain (old new : Graph) (e : Equation) (work later : List Equation) : Type 0 where
+  pub next : Equation
+  pub same : IsSameEquation old new e next
+  pub variables : new.depths ≡ old.depths
+  pub pushed : later ≡ work ++ next ∷ []
 
 -- the equations of two lists of nodes, one after the other
 abbrev pub arguments_of : (depth : ℕ) → List TermId → List TermId → List Equation
