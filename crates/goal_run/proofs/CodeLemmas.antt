@@ -20,7 +20,7 @@ use Rattle.search_moves.specs.declared.machine.Event.{Event}
 use Rattle.search_moves.specs.Machine as moves
 use Rattle.search_moves.proofs.ListLemmas.{oldest-all}
 use Rattle.goal_run.specs.declared.code.ProgramCode.{ProgramCode}
-use Rattle.goal_run.specs.inside.Code.{Stands, IsCodeFor, IsIndexed}
+use Rattle.goal_run.specs.inside.Code.{Stands, IsCodeFor, IsLaidOut}
 
 -- a heap with these nodes alone
 abbrev heap_with : List Node → Graph
@@ -30,13 +30,20 @@ heap_with ns = record { nodes = ns; depths = []; assigned = [] }
 pub some-code : (ns : List Node) (c : ProgramCode) (p : Program) → (w : Stands ns c p) → IsCode w.shared (heap_with ns) c.code p
 some-code ns c p w = w.code (length ns) (heap_with ns) (omega arith) (oldest-all ns)
 
--- without its index
-pub unindexed : (ns : List Node) (c : ProgramCode) (p : Program) → Stands ns c p → IsCodeFor ns c.code c.tables p
-unindexed ns c p w = record { shared = w.shared; means = w.code; finds = w.tables }
+-- without its shapes and its index
+pub bare-code : (ns : List Node) (c : ProgramCode) (p : Program) → Stands ns c p → IsCodeFor ns c.code p
+bare-code ns c p w = record { shared = w.shared; means = w.code }
 
--- and with it, where that is the code's
-pub indexed : (ns : List Node) (c : ProgramCode) (p : Program) → IsIndexed c → IsCodeFor ns c.code c.tables p → Stands ns c p
-indexed ns c p index w = record { shared = w.shared; code = w.means; tables = w.finds; index = index w.shared (heap_with ns) p (w.means (length ns) (heap_with ns) (omega arith) (oldest-all ns)) }
+-- and with them, where these are the code's
+pub laid-out : (ns : List Node) (c : ProgramCode) (p : Program) → IsLaidOut c → IsCodeFor ns c.code p → Stands ns c p
+laid-out ns c p laid w =
+    let is = w.means (length ns) (heap_with ns) (omega arith) (oldest-all ns) in
+    record {
+      shared = w.shared;
+      code = w.means;
+      shapes = laid.shapes w.shared (heap_with ns) p is;
+      index = laid.index w.shared (heap_with ns) p is;
+    }
 
 -- a move of the search is one of the machine that has it
 pub moved-for : (a b after : moves.Machine) (p : Program) (e : Event) → a ≡ b → moves.HasMoved p (next unify p (moves.state_of p a)) e after → moves.HasMoved p (next unify p (moves.state_of p b)) e after

@@ -1,4 +1,4 @@
-pub mod TableLemmas
+pub mod ShapeLemmas
 pub mod CodeLemmas
 pub mod LineLemmas
 pub mod StartLemmas

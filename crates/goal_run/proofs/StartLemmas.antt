@@ -25,18 +25,18 @@ use Rattle.clause_compile.proofs.CodeLemmas.{code-grown, code-oldest}
 use Rattle.clause_index.specs.Index.{IsIndexOf}
 use Rattle.search_moves.proofs.ListLemmas.{oldest-all}
 use Rattle.goal_run.specs.declared.code.ProgramCode.{ProgramCode}
-use Rattle.goal_run.specs.inside.Tables.{AreTables}
+use Rattle.goal_run.specs.inside.Shapes.{AreShapes}
 use Rattle.goal_run.specs.inside.Code.{Stands}
 
 -- code that was made before the query's nodes stands over all of them
-pub begins : (f h : Graph) (code : Code) (c : ProgramCode) (p : Program) (ns : List Node) → Grows f h [] [] → IsCode (length f.nodes) f code p → c.code ≡ code → AreTables p.clauses 0 c.tables → IsIndexOf p c.index → ns ≡ h.nodes → Stands ns c p
-begins f h code c p ns w is e tables index same = record {
+pub begins : (f h : Graph) (code : Code) (c : ProgramCode) (p : Program) (ns : List Node) → Grows f h [] [] → IsCode (length f.nodes) f code p → c.code ≡ code → AreShapes c.shapes.items p.rules → IsIndexOf p c.index → ns ≡ h.nodes → Stands ns c p
+begins f h code c p ns w is e shapes index same = record {
   shared = length f.nodes;
   code = λ n g low over.
       subst (λ (z : Code). IsCode (length f.nodes) g z p) (sym e)
       (code-oldest (length f.nodes) (length h.nodes) n h g code p (omega (arith, ap length w.nodes, length-append w.new_nodes f.nodes)) (omega arith) low (over ∙ same ∙ sym (oldest-all h.nodes))
       (code-grown (length f.nodes) f h [] [] code p w is));
-  tables = tables;
+  shapes = shapes;
   index = index;
 }
 

@@ -1,6 +1,5 @@
 -- Lines of suspended goals.
-use Rattle.std.proofs.Common.{◌≡◌, ℕ, ◌≤◌, ◌++◌, List, [], ◌∷◌, map, refl, sym, ap, ap₂, ◌∙◌, subst, append-nil}
-use Rattle.level_terms.specs.declared.node.TermId.{TermId}
+use Rattle.std.proofs.Common.{◌≡◌, ℕ, ◌++◌, List, [], ◌∷◌, map, refl, sym, ap, ap₂, ◌∙◌, subst, append-nil}
 use Rattle.level_terms.specs.Graph.{Graph}
 use Rattle.level_terms.specs.Growth.{Grows}
 use Rattle.level_terms.specs.Reading.{read}
@@ -14,7 +13,7 @@ use Rattle.ref_terms.specs.terms.Term.{Term}
 use Rattle.ref_terms.specs.search.Assumption.{Assumption}
 use Rattle.ref_terms.specs.search.Branch.{Constraint, Branch}
 use Rattle.ref_terms.specs.texts.Text.{Part, Bytes}
-use Rattle.ref_terms.specs.texts.Answer.{answer_block, sequent_parts}
+use Rattle.ref_terms.specs.texts.Answer.{answer_block}
 use Rattle.ref_terms.specs.texts.Numbering.{numbered}
 use Rattle.hyp_clause.specs.declared.hyp.Hyp.{Hyp}
 use Rattle.hyp_clause.specs.Hyps.{assumption_in, AllHypsValid}

@@ -10,19 +10,17 @@ use Rattle.search_moves.specs.declared.machine.Phase.TheVariants.{Starved}
 use Rattle.search_moves.specs.World.{code_nodes}
 use Rattle.search_moves.specs.Machine as moves
 use Rattle.clause_compile.specs.declared.code.Code.{Code}
-use Rattle.goal_run.specs.declared.tables.Tables.{Tables}
 use Rattle.goal_run.specs.inside.Code.{IsCodeFor}
 
--- the search, the program's code with the tables of its clauses, and the query's variables
+-- the search, the program's code, and the query's variables
 pub record Machine : Type 0 where
   pub moves : moves.Machine
   pub code : Code
-  pub tables : Tables
   pub variables : List QueryVar
 
 -- the machine's program is this one
 abbrev pub Runs : Machine → Program → Type 0
-Runs m p = IsCodeFor (code_nodes m.moves.world) m.code m.tables p
+Runs m p = IsCodeFor (code_nodes m.moves.world) m.code p
 
 -- the present branch: that of the answer, where the last event was one
 abbrev pub branch_of : Machine → Branch

@@ -1,4 +1,4 @@
-pub mod Tables
+pub mod Shapes
 pub mod Code
 pub mod Lines
 pub mod Heading

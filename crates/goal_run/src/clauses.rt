@@ -77,14 +77,6 @@ impl Clauses for ProgramCode {
         }
     }
 
-    fn first_clause(&self, c: Sym) -> Option<usize> {
-        self.tables.first_clause(c)
-    }
-
-    fn later_clause(&self, c: Sym, clause: usize) -> Option<usize> {
-        self.tables.next_after(c, clause)
-    }
-
     fn next_clause(&self, c: Sym, key: Key, from: usize) -> Option<usize> {
         self.index.next_from(c, key, from)
     }

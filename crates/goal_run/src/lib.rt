@@ -8,8 +8,9 @@ mod code;
 pub mod laws;
 mod machine;
 mod page;
+mod rules;
+mod shapes;
 mod suspended;
-mod tables;
 
 pub use machine::Machine;
 pub use search_moves::Event;

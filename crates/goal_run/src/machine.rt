@@ -77,13 +77,13 @@ impl Machine {
     ///
     /// Errors: want of memory, which comes again from then on.
     pub fn step(&mut self, symbols: &Symbols) -> Result<Event, AllocError>
-        ensures moved { IfOk result (λ e. (p : Program) → Runs self.old p → p.symbols ≡ symbols.now → p.rules ≡ [] → HasMoved p (next unify p (state_of p self.old)) e self.new) }
+        ensures moved { IfOk result (λ e. (p : Program) → Runs self.old p → p.symbols ≡ symbols.now → HasMoved p (next unify p (state_of p self.old)) e self.new) }
         ensures starved { OnErr result (IsStarved self.new) }
         ensures stays { OnOk result (IsStarved self.old → ⊥) }
         ensures program { (p : Program) → Runs self.old p → Runs self.new p }
         ensures variables { self.new.variables ≡ self.old.variables }
     {
-        self.moves.step(&self.code, symbols)
+        self.moves.step(&self.code, &self.code, symbols)
     }
 
     /// The block of the present branch, as the answer with this number: after `Answer` that of the

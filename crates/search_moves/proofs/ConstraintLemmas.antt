@@ -20,7 +20,9 @@ use Rattle.hyp_clause.specs.declared.hyp.Hyp.{Hyp}
 use Rattle.hyp_clause.proofs.HypLemmas.{hyps-read}
 use Rattle.hyp_clause.proofs.LawLemmas.{hyps-bound}
 use Rattle.suspend.specs.declared.constraint.Constraint.{Constraint}
-use Rattle.search_moves.specs.World.{AllConstraints}
+use Rattle.hyp_context.specs.Contexts.{AllWithinDepth}
+use Rattle.sequent_rules.specs.Branches.{AllSequents}
+use Rattle.search_moves.specs.World.{AllUsable, AllConstraints}
 use Rattle.search_moves.specs.Reading.{constraint_in}
 use Rattle.search_moves.proofs.OwnLemmas.{context-grown}
 use Rattle.search_moves.proofs.FrameLemmas.{valid-grown, all-valid-grown}
@@ -61,3 +63,16 @@ constraints-bound g h bs reads (e ∷ es) v =
     let keys = all-bound g h bs e.1.names (λ t k. reads t e.1.names k) e.1.keys v.0.keys in
     let one : constraint_in h e ≡ bound_constraint bs (constraint_in g e) = λ i. record { number = e.0; names = e.1.names; assumptions = assumed i; term = term i; keys = keys i } in
     ap₂ (λ (x : branch.Constraint) (xs : List branch.Constraint). x ∷ xs) one (constraints-bound g h bs reads es v.1)
+
+-- as the search for rule instances sees them
+
+usable-within : (g : Graph) (d : ℕ) (hs : List Hyp) → AllUsable g d hs → AllWithinDepth d hs
+usable-within g d [] u = tt
+usable-within g d (h ∷ hs) u = (u.0.scope, usable-within g d hs u.1)
+
+pub constraints-sequents : (g : Graph) (es : List (ℕ × Constraint (List Hyp))) → AllConstraints g es → AllSequents g es
+constraints-sequents g [] v = tt
+constraints-sequents g (e ∷ es) v = (
+  record { goal = v.0.goal; keys = v.0.keys; context = v.0.context.valid; within = usable-within g e.1.names e.1.context v.0.context.usable },
+  constraints-sequents g es v.1,
+)

@@ -1,5 +1,5 @@
 -- States without an alternative that is left out.
-use Rattle.std.proofs.Common.{◌≡◌, ℕ, zero, suc, ◌≤◌, Bool, false, cond, List, [], ◌∷◌, length, refl, sym, ap, ap₂, ◌∙◌, subst}
+use Rattle.std.proofs.Common.{◌≡◌, ℕ, zero, suc, false, cond, List, ◌∷◌, length, refl, sym, ap, ap₂, ◌∙◌, subst}
 use Rattle.ref_terms.specs.unification.Unification.{unify}
 use Rattle.ref_terms.specs.search.Program.{Program}
 use Rattle.ref_terms.specs.search.Branch.{Goal, Branch}
@@ -10,7 +10,7 @@ use Rattle.ref_terms.specs.search.Strip.{with_barriers, is_kept, kept_of, stripp
 use Rattle.ref_terms.proofs.search.KeptCounts.{falls-map, kept-low}
 use Rattle.ref_terms.proofs.search.StripMoves.{next-strips}
 use Rattle.ref_terms.proofs.search.CountedMoves.{next-counted}
-use Rattle.search_moves.specs.Machine.{LeavesOut, IsLean, whole, leaner}
+use Rattle.search_moves.specs.Machine.{LeavesOut, whole, leaner}
 use Rattle.search_moves.specs.Laws.{LeanStatesShowTheSame}
 
 -- what comes after equal events

@@ -34,3 +34,6 @@ pub mod VariableLemmas
 pub mod BuiltinMoves
 pub mod SuspendMoves
 pub mod WakeMoves
+pub mod FoundLemmas
+pub mod FiringLemmas
+pub mod FireMoves

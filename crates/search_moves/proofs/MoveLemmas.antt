@@ -15,6 +15,8 @@ use Rattle.ref_terms.specs.search.Strip.{is_open, BarriersFall}
 use Rattle.std.specs.List.{list_any}
 use Rattle.ref_terms.specs.search.State.{Candidate, Alternative, later_clauses, Move, Running, Ended, Failure, Answered, goes_on, stops, faults}
 use Rattle.ref_terms.specs.search.Next.{next, retry, by_goal, by_rule, by_waking, woken}
+use Rattle.ref_terms.specs.search.Fault.{Good, Bad}
+use Rattle.ref_terms.specs.search.RuleInstance.{Firing, after_firing}
 use Rattle.ref_terms.specs.search.FirstRule.{first_firing}
 use Rattle.search_moves.specs.declared.frame.Frame.{Frame}
 use Rattle.search_moves.specs.declared.machine.Phase.{Phase}
@@ -25,7 +27,7 @@ use Rattle.search_moves.specs.World.{chain}
 use Rattle.search_moves.specs.Reading.{goal_in, saved_in}
 use Rattle.search_moves.specs.Waking.{up_in, HasWoken}
 use Rattle.search_moves.specs.Calling.{Leaves, left_over, left_out}
-use Rattle.search_moves.specs.Machine.{Machine, branch_of, alternatives_of, state_at, state_of, rest_of, move_of, IsFirst, IsLean, whole, leaner, HasMoved}
+use Rattle.search_moves.specs.Machine.{Machine, branch_of, alternatives_of, state_at, state_of, rest_of, move_of, IsFirst, whole, leaner, HasMoved}
 
 pub if-ok : {T E : Type 0} (r : Result T E) (A B : T → Type 0) → ((t : T) → A t → B t) → IfOk r A → IfOk r B
 if-ok (Ok t) A B f h = f t h
@@ -71,14 +73,17 @@ broken p m f e = record { event = refl; state = whole (ap (state_at p m) e) }
 pub moved-as : (p : Program) (x y : Move) (e : Event) (m : Machine) → x ≡ y → HasMoved p y e m → HasMoved p x e m
 moved-as p x y e m same h = subst (λ z. HasMoved p z e m) (sym same) h
 
--- the move of a machine that runs, where there are no rules and no constraint is awake
-pub next-is : (p : Program) (m : Machine) → p.rules ≡ [] → up_in (branch_of m) ≡ [] → m.phase ≡ phase.Running
-    → next unify p (state_of p m) ≡ by_goal unify p (branch_of m) (alternatives_of p m) (map (goal_in m.world.heap) (chain m.world.frames m.first))
+-- the move of a machine that runs, where no constraint is awake
+next-by_rule : (p : Program) (m : Machine) → up_in (branch_of m) ≡ [] → m.phase ≡ phase.Running
+    → next unify p (state_of p m) ≡ by_rule unify p (branch_of m) (alternatives_of p m) (first_firing unify (branch_of m) 0 p.rules)
 unfolding next
-next-is p m none asleep e =
-    ap (λ (k : Phase). next unify p (state_at p m k)) e
-    ∙ ap (by_waking unify p (branch_of m) (alternatives_of p m)) asleep
-    ∙ ap (λ rs. by_rule unify p (branch_of m) (alternatives_of p m) (first_firing unify (branch_of m) 0 rs)) none
+next-by_rule p m asleep e =
+    ap (λ (k : Phase). next unify p (state_at p m k)) e ∙ ap (by_waking unify p (branch_of m) (alternatives_of p m)) asleep
+
+-- and no rule has an instance
+pub next-is : (p : Program) (m : Machine) → first_firing unify (branch_of m) 0 p.rules ≡ None → up_in (branch_of m) ≡ [] → m.phase ≡ phase.Running
+    → next unify p (state_of p m) ≡ by_goal unify p (branch_of m) (alternatives_of p m) (map (goal_in m.world.heap) (chain m.world.frames m.first))
+next-is p m none asleep e = next-by_rule p m asleep e ∙ ap (by_rule unify p (branch_of m) (alternatives_of p m)) none
 
 -- where constraints are awake
 next-wakes : (p : Program) (m : Machine) (c : Constraint) (cs : List Constraint) → up_in (branch_of m) ≡ c ∷ cs → m.phase ≡ phase.Running
@@ -115,7 +120,7 @@ pub next-broken : (p : Program) (m : Machine) (f : Fault) → m.phase ≡ phase.
 unfolding next
 next-broken p m f e = ap (λ (k : Phase). next unify p (state_at p m k)) e
 
-pub answered : (p : Program) (old new : Machine) → p.rules ≡ [] → up_in (branch_of old) ≡ [] → old.phase ≡ phase.Running → chain old.world.frames old.first ≡ [] → new ≡ record old { phase = phase.Answered }
+pub answered : (p : Program) (old new : Machine) → first_firing unify (branch_of old) 0 p.rules ≡ None → up_in (branch_of old) ≡ [] → old.phase ≡ phase.Running → chain old.world.frames old.first ≡ [] → new ≡ record old { phase = phase.Answered }
     → HasMoved p (next unify p (state_of p old)) event.Answer new
 answered p old new none asleep e empty same =
     let last : Move = record { event = Answered (branch_of old); state = Ended (Some (branch_of old)) (alternatives_of p old) } in
@@ -128,13 +133,28 @@ pub broken-off : (p : Program) (move : Move) (old new : Machine) (f : Fault) (e 
 broken-off p move old new f e is shown same =
     moved-as p move (faults f) e new is (subst (λ z. HasMoved p (faults f) z new) (sym shown) (broken p new f (ap (λ m. m.phase) same)))
 
+-- a rule fires
+pub fired-moved : (p : Program) (old new : Machine) (f : Firing) → up_in (branch_of old) ≡ [] → old.phase ≡ phase.Running → new.phase ≡ phase.Running → first_firing unify (branch_of old) 0 p.rules ≡ Some (Good f)
+    → branch_of new ≡ after_firing (branch_of old) (length old.saved) f → alternatives_of p new ≡ alternatives_of p old → HasMoved p (next unify p (state_of p old)) event.Moved new
+fired-moved p old new f asleep running runs is branch others =
+    moved-as p (next unify p (state_of p old)) (goes_on (after_firing (branch_of old) (length (alternatives_of p old)) f) (alternatives_of p old)) event.Moved new
+    (next-by_rule p old asleep running ∙ ap (by_rule unify p (branch_of old) (alternatives_of p old)) is)
+    (moved p new (after_firing (branch_of old) (length (alternatives_of p old)) f) (alternatives_of p old) runs
+    (branch ∙ ap (λ n. after_firing (branch_of old) n f) (sym (length-map old.saved (saved_in p old.world)))) others)
+
+-- reading a rule's body, or matching, comes to a fault
+pub rule-broken : (p : Program) (old m new : Machine) (f : Fault) (e : Event) → up_in (branch_of old) ≡ [] → old.phase ≡ phase.Running → first_firing unify (branch_of old) 0 p.rules ≡ Some (Bad f)
+    → e ≡ event.Fault f → new ≡ record m { phase = phase.Broken f } → HasMoved p (next unify p (state_of p old)) e new
+rule-broken p old m new f e asleep running is shown same =
+    broken-off p (next unify p (state_of p old)) m new f e (next-by_rule p old asleep running ∙ ap (by_rule unify p (branch_of old) (alternatives_of p old)) is) shown same
+
 -- the first goal's move
 
 abbrev tail : List Goal → List Goal
 tail [] = []
 tail (x ∷ xs) = xs
 
-pub goal-moved : (p : Program) (m0 m1 new : Machine) (f : Frame) (kind : GoalKind) (e : Event) → p.rules ≡ [] → up_in (branch_of m0) ≡ [] → m0.phase ≡ phase.Running → IsFirst m0 f → IsFirst m1 f
+pub goal-moved : (p : Program) (m0 m1 new : Machine) (f : Frame) (kind : GoalKind) (e : Event) → first_firing unify (branch_of m0) 0 p.rules ≡ None → up_in (branch_of m0) ≡ [] → m0.phase ≡ phase.Running → IsFirst m0 f → IsFirst m1 f
     → goal_in m1.world.heap f ≡ goal_in m0.world.heap f → branch_of m1 ≡ branch_of m0 → alternatives_of p m1 ≡ alternatives_of p m0
     → goal_kind (read m1.world.heap f.term.index names) ≡ kind → HasMoved p (move_of p m1 f kind) e new → HasMoved p (next unify p (state_of p m0)) e new
 goal-moved p m0 m1 new f kind e none asleep running first first' goal branch others is h =

@@ -2,7 +2,6 @@
 use Rattle.std.proofs.Common.{◌≡◌, ℕ, suc, Bool, true, false, cond, not, ◌||◌, nat_eq, List, [], ◌∷◌, map, length, Option, Some, unwrap_or, replicate, refl, sym, ap, ap₂, ◌∙◌, eqb-true}
 use Rattle.std.specs.List.{list_any}
 use Rattle.std.proofs.lemmas.List.{length-map}
-use Rattle.level_terms.specs.Graph.{Graph}
 use Rattle.level_terms.specs.Reading.{read}
 use Rattle.beta_fragment.specs.Names.{names}
 use Rattle.beta_fragment.specs.HeadForm.{all_read}
@@ -14,14 +13,14 @@ use Rattle.clause_key.specs.Laws.{DisagreeingAssumptionClashes}
 use Rattle.clause_key.proofs.CallerLemmas.{disagreeing, fixed-same}
 use Rattle.hyp_clause.specs.declared.hyp.Hyp.{Hyp}
 use Rattle.hyp_clause.specs.Hyps.{assumption_in}
-use Rattle.ref_terms.specs.terms.Term.{Term, Con}
+use Rattle.ref_terms.specs.terms.Term.{Con}
 use Rattle.ref_terms.specs.unification.Spine.{args_of, head_of}
 use Rattle.ref_terms.specs.unification.Unification.{unify}
 use Rattle.ref_terms.specs.search.Branch.{Goal}
 use Rattle.ref_terms.specs.search.Assumption.{Assumption}
 use Rattle.ref_terms.specs.search.Candidates.{from_place}
 use Rattle.ref_terms.specs.search.Program.{Program, modes_of}
-use Rattle.ref_terms.specs.search.State.{Candidate, of_assumption}
+use Rattle.ref_terms.specs.search.State.{of_assumption}
 use Rattle.ref_terms.specs.search.Strip.{is_open}
 use Rattle.ref_terms.specs.search.Resolve.{Clashes, try}
 use Rattle.search_moves.specs.declared.frame.Frame.{Frame}

@@ -15,11 +15,12 @@ use Rattle.ref_terms.specs.search.Branch.{bound, bound_goal, bound_constraint, b
 use Rattle.search_moves.specs.declared.frame.Frame.{Frame}
 use Rattle.hyp_clause.proofs.HypLemmas.{hyps-read}
 use Rattle.hyp_clause.proofs.LawLemmas.{hyps-bound}
+use Rattle.sequent_rules.proofs.KeptLemmas.{Keeps, all-kept, hyps-kept, constraints-kept}
 use Rattle.search_moves.specs.World.{World, chain, IsContextAt, IsFine}
 use Rattle.search_moves.specs.Moves.{LeavesRest}
 use Rattle.suspend.specs.Store.{stored}
 use Rattle.search_moves.specs.Reading.{goal_in, constraint_in, firing_of, branch_in}
-use Rattle.search_moves.proofs.ConstraintLemmas.{all-bound, constraints-read, constraints-bound}
+use Rattle.search_moves.proofs.ConstraintLemmas.{all-bound, constraints-read, constraints-bound, constraints-sequents}
 use Rattle.search_moves.proofs.FrameLemmas.{chain-agrees}
 
 map-map : {A B C : Type 0} (x : B → C) (y : A → B) (ts : List A) → map x (map y ts) ≡ map (λ t. x (y t)) ts
@@ -57,4 +58,19 @@ grown-reads w w' first sound fine r grows =
     let query : all_read h w'.query ≡ all_read g w.query = ap (all_read h) r.query ∙ read-grown_all g h 0 sound grows w.query fine.query in
     let store : map (constraint_in h) (stored w'.log) ≡ map (constraint_in g) (stored w.log) =
     ap (map (constraint_in h)) r.store.constraints ∙ constraints-read g h sound grows (stored w.log) fine.constraints in
+    λ i. record { goals = goals i; store = store i; fired = map firing_of (r.store.firings_are i); query = query i; next_var = length h.depths; declared = r.store.additions i; path = r.path i }
+
+-- where no variable that was there gets a value
+pub kept-reads : (w w' : World) (first : ℕ) → IsFine w first → LeavesRest w w' → Keeps w.heap w'.heap → branch_in w' first ≡ record (branch_in w first) { next_var = length w'.heap.depths }
+kept-reads w w' first fine r k =
+    let g = w.heap in
+    let h = w'.heap in
+    let same : (x : Frame) → IsValid g x.term.index x.depth → IsContextAt g x.depth x.context → goal_in h x ≡ goal_in g x = λ x v c.
+    let assumed = hyps-kept g h k x.context c.valid in
+    λ i. record { names = x.depth; assumptions = assumed i; barrier = x.barrier; term = k.reads x.term.index x.depth v i } in
+    let goals : map (goal_in h) (chain w'.frames first) ≡ map (goal_in g) (chain w.frames first) =
+    ap (λ fs. map (goal_in h) (chain fs first)) r.frames ∙ chain-agrees g (goal_in h) (goal_in g) same w.frames first fine.frames in
+    let query : all_read h w'.query ≡ all_read g w.query = ap (all_read h) r.query ∙ all-kept g h k 0 w.query fine.query in
+    let store : map (constraint_in h) (stored w'.log) ≡ map (constraint_in g) (stored w.log) =
+    ap (map (constraint_in h)) r.store.constraints ∙ constraints-kept g h k (stored w.log) (constraints-sequents g (stored w.log) fine.constraints) in
     λ i. record { goals = goals i; store = store i; fired = map firing_of (r.store.firings_are i); query = query i; next_var = length h.depths; declared = r.store.additions i; path = r.path i }

@@ -1,5 +1,5 @@
 -- Calls of atoms, and the clauses that are tried.
-use Rattle.std.specs.Prelude.{◌≡◌, ℕ, ◌<◌, ◌≤◌, Bool, true, false, cond, nat_eq, suc, List, [], ◌∷◌, length, map, drop, replicate, slice_get, Option, Some, None, unwrap_or}
+use Rattle.std.specs.Prelude.{◌≡◌, ℕ, ◌<◌, Bool, true, false, cond, nat_eq, List, [], ◌∷◌, length, map, drop, replicate, slice_get, Option, Some, None, unwrap_or}
 use Rattle.std.specs.List.{list_any}
 use Rattle.level_terms.specs.declared.node.TermId.{TermId}
 use Rattle.level_terms.specs.Graph.{Graph}
@@ -21,7 +21,7 @@ use Rattle.hyp_clause.specs.declared.hyp.Hyp.{Hyp}
 use Rattle.hyp_clause.specs.Hyps.{assumption_in}
 use Rattle.ref_terms.specs.search.Candidates.{program_candidates, call_fault}
 use Rattle.ref_terms.specs.search.Strip.{is_open}
-use Rattle.ref_terms.specs.search.State.{Candidate, Alternative, of_program, of_assumption}
+use Rattle.ref_terms.specs.search.State.{Candidate, Alternative, of_assumption}
 use Rattle.ref_terms.specs.search.BranchMove.{with_later}
 use Rattle.ref_terms.specs.search.Resolve.{Tried, Fits, Clashes, Breaks, Resolved, resolve, try}
 use Rattle.ref_terms.specs.unification.Unification.{unify}
@@ -36,20 +36,6 @@ use Rattle.search_moves.specs.Instances.{HaveBuiltValues}
 use Rattle.search_moves.specs.declared.call.Call.{Call}
 use Rattle.search_moves.specs.Machine.{Machine, branch_of, alternatives_of, rest_of, IsFirst}
 use Rattle.search_moves.specs.Matching.{tried_at}
-
--- the clause with this number is the first one of a constant from a number on
-pub record IsFirstClause (ks : List Clause) (c from i : ℕ) : Type 0 where
-  pub clause : Clause
-  pub here : slice_get ks i ≡ Some clause
-  pub headed : headed_by c clause.head ≡ true
-  pub low : from ≤ i
-  pub high : i < length ks
-  pub is : program_candidates c from (drop from ks) ≡ of_program i clause ∷ program_candidates c (suc i) (drop (suc i) ks)
-
--- the first clause of a constant from a number on, if there is one
-abbrev pub IsNextClause : List Clause → (c from : ℕ) → Option ℕ → Type 0
-IsNextClause ks c from None = program_candidates c from (drop from ks) ≡ []
-IsNextClause ks c from (Some i) = IsFirstClause ks c from i
 
 -- the first goal is this call: an atom of the constant with these arguments
 pub record IsCall (m : Machine) (call : Call) : Type 0 where

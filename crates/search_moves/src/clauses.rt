@@ -1,13 +1,12 @@
 //! What a search asks of a program's clauses.
 
-ghost use Rattle.std.specs.Prelude.{◌≡◌, ◌<◌, ◌≤◌, suc, List, [], ℕ, length, IfOk, OnOk, Some, None, MatchOption, slice_get, option_to_list};
+ghost use Rattle.std.specs.Prelude.{◌≡◌, ◌<◌, ◌≤◌, List, [], ℕ, length, IfOk, OnOk, Some, None, MatchOption, slice_get, option_to_list};
 ghost use Rattle.level_terms.specs.Growth.{Grows};
 ghost use Rattle.level_terms.specs.declared.node.Node.{Node as HeapNode};
 ghost use Rattle.ref_terms.specs.search.Program.{Program, Clause, modes_of};
 ghost use Rattle.beta_fragment.specs.HeadForm.{AllValidAt};
 ghost use Rattle.search_moves.specs.World.{oldest};
 ghost use Rattle.search_moves.specs.Instances.{IsInstanceOf, IsBodyOver};
-ghost use Rattle.search_moves.specs.Calling.{IsNextClause};
 ghost use Rattle.clause_key.specs.Passing.{IsNextFor};
 
 use clause_key::Key;
@@ -34,14 +33,6 @@ pub trait Clauses {
     /// stated number of arguments.
     fn modes(&self, c: Sym) -> Option<&[bool]>
         ensures { (ns : List HeapNode) (p : Program) → stands ns self.now p → MatchOption result (modes_of p c.0 ≡ None) (λ ms. modes_of p c.0 ≡ Some ms.now) };
-
-    /// The first clause of a constant.
-    fn first_clause(&self, c: Sym) -> Option<usize>
-        ensures { (ns : List HeapNode) (p : Program) → stands ns self.now p → IsNextClause p.clauses c.0 0 result };
-
-    /// The first clause of a constant after a clause.
-    fn later_clause(&self, c: Sym, clause: usize) -> Option<usize>
-        ensures { (ns : List HeapNode) (p : Program) → stands ns self.now p → IsNextClause p.clauses c.0 (suc clause) result };
 
     /// The first clause of a constant from a number on that agrees with the key of a call.
     fn next_clause(&self, c: Sym, key: Key, from: usize) -> Option<usize>

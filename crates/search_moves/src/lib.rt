@@ -8,6 +8,7 @@
 mod assumed;
 mod call;
 mod clauses;
+mod firing;
 mod frame;
 pub mod laws;
 mod machine;

@@ -28,7 +28,7 @@ ghost use Rattle.ref_terms.specs.unification.Spine.{args_of, head_of};
 ghost use Rattle.level_terms.specs.Graph.{Graph};
 ghost use Rattle.goal_form.specs.Kinds.{IsKindOf};
 ghost use Rattle.search_moves.specs.World.{chain, IsFine, IsContextAt, IsUsable, mark_of, undone, code_nodes};
-ghost use Rattle.search_moves.specs.Reading.{goal_in, left_at, saved_in};
+ghost use Rattle.search_moves.specs.Reading.{goal_in, firing_of, left_at, saved_in};
 ghost use Rattle.search_moves.specs.Waking.{first_up, AllGoalsAt, WakesOne};
 ghost use Rattle.search_moves.specs.Machine.{Machine, branch_of, alternatives_of, rest_of, IsFirst, LeavesAlternatives, GoesOnSo, StartsWith};
 ghost use Rattle.search_moves.specs.Saved.{newest_frames, AllSaved, HasLeft};
@@ -37,6 +37,9 @@ ghost use Rattle.clause_key.specs.Seen.{IsSeenAmong};
 ghost use Rattle.ref_terms.specs.search.State.{other_side};
 ghost use Rattle.ref_terms.specs.search.BranchMove.{cut_to, applied_whole};
 ghost use Rattle.ref_terms.specs.declared.path.Choice.TheVariants.{Right as RightSide};
+ghost use Rattle.ref_terms.specs.search.RuleInstance.{is_fired};
+ghost use Rattle.sequent_rules.specs.Instances.{Answers, StopsBy, first_of};
+ghost use Rattle.search_moves.specs.Firing.{has_number, without_number, CanFire};
 
 use crate::clauses::{Clauses, Instance};
 use crate::frame::{Frame, Left, Mark, Saved};
@@ -53,9 +56,10 @@ use lam_io::ByteText;
 use level_terms::{Change, Heap, TermId, TermIds, VarId};
 use lp_resolve::Symbols;
 use ref_terms::{Choice, Fault};
+use sequent_rules::{Firing, Rules};
 use std::alloc::{AllocError, AllocFailed, Global};
 use std::marker::Model;
-use suspend::Constraint;
+use suspend::{Constraint, Fired};
 use trail::Trail;
 
 /// What the last move came to.
@@ -758,6 +762,52 @@ impl Machine {
     {
         let goal = self.stage.withdraw(id, barrier)?;
         Ok(goal)
+    }
+
+    /// The first instance of a rule, where there is one. Without one the machine is as it was but for
+    /// what no contract sees.
+    pub(crate) fn next_rule<R: Rules>(&mut self, rules: &R) -> Result<Option<Firing>, UnifyStop>
+        requires { (p : Program) × (R.stands (code_nodes self.old.world) rules.now p) }
+        ensures answer { IfOk result (λ o. (p : Program) → R.stands (code_nodes self.old.world) rules.now p → Answers self.new.world.heap o (first_of p.rules (branch_of self.old))) }
+        ensures stops { IfErr result (λ stop. (p : Program) → R.stands (code_nodes self.old.world) rules.now p → StopsBy stop (first_of p.rules (branch_of self.old))) }
+        ensures firing { IfOk result (λ o. IfSome o (CanFire self.new)) }
+        ensures none { IfOk result (λ o. IfNone o (branch_of self.new ≡ branch_of self.old)) }
+        ensures branch { branch_of self.new ≡ record (branch_of self.old) { next_var = length self.new.world.heap.depths } }
+        ensures saved { self.new.saved ≡ self.old.saved }
+        ensures phase { self.new.phase ≡ self.old.phase }
+        ensures code { code_nodes self.new.world ≡ code_nodes self.old.world }
+        ensures alternatives { LeavesAlternatives self.old self.new }
+    {
+        self.stage.is_sound();
+        self.stage.next_rule(rules)
+    }
+
+    /// Takes a constraint out of the store.
+    pub(crate) fn remove(&mut self, id: u64) -> Result<(), AllocError>
+        requires { has_number (branch_of self.old).store id ≡ true }
+        ensures branch { OnOk result (branch_of self.new ≡ record (branch_of self.old) { store = without_number id (branch_of self.old).store }) }
+        ensures heap { self.new.world.heap ≡ self.old.world.heap }
+        ensures saved { self.new.saved ≡ self.old.saved }
+        ensures phase { self.new.phase ≡ self.old.phase }
+        ensures code { code_nodes self.new.world ≡ code_nodes self.old.world }
+        ensures alternatives { LeavesAlternatives self.old self.new }
+    {
+        self.stage.remove(id)?;
+        Ok(())
+    }
+
+    /// Notes that a rule fired.
+    pub(crate) fn note_firing(&mut self, pair: Fired) -> Result<(), AllocError>
+        requires { is_fired (firing_of pair) (branch_of self.old).fired ≡ false }
+        ensures branch { OnOk result (branch_of self.new ≡ record (branch_of self.old) { fired = (branch_of self.old).fired ++ firing_of pair ∷ [] }) }
+        ensures heap { self.new.world.heap ≡ self.old.world.heap }
+        ensures saved { self.new.saved ≡ self.old.saved }
+        ensures phase { self.new.phase ≡ self.old.phase }
+        ensures code { code_nodes self.new.world ≡ code_nodes self.old.world }
+        ensures alternatives { LeavesAlternatives self.old self.new }
+    {
+        self.stage.note_firing(pair)?;
+        Ok(())
     }
 
     /// Keeps the oldest alternatives, as many as that.

@@ -1,6 +1,6 @@
 //! The moves.
 
-ghost use Rattle.std.specs.Prelude.{◌≡◌, ◌≢◌, IfOk, OnOk, OnErr, ◌∷◌, [], filter};
+ghost use Rattle.std.specs.Prelude.{◌≡◌, ◌≢◌, IfOk, OnOk, OnErr, [], filter, None};
 ghost use Rattle.level_terms.specs.Reading.{read};
 ghost use Rattle.level_terms.specs.Valid.{IsValid};
 ghost use Rattle.beta_fragment.specs.HeadForm.{all_read, AllValidAt};
@@ -11,6 +11,7 @@ ghost use Rattle.ref_terms.specs.unification.Unification.{unify};
 ghost use Rattle.ref_terms.specs.search.Formula.{reserved_goal, Truth, Failing, Cut, Conjunction, Disjunction};
 ghost use Rattle.ref_terms.specs.search.Program.{Program};
 ghost use Rattle.ref_terms.specs.search.Next.{next, is_awake};
+ghost use Rattle.sequent_rules.specs.Instances.{first_of};
 ghost use Rattle.search_moves.specs.declared.machine.Phase.TheVariants.{Running, Starved, Broken};
 ghost use Rattle.search_moves.specs.declared.machine.Event.TheVariants as event;
 ghost use Rattle.search_moves.specs.World.{code_nodes};
@@ -26,6 +27,7 @@ use goal_form::GoalKind;
 use level_terms::TermId;
 use lp_resolve::Symbols;
 use ref_terms::{Choice, Fault};
+use sequent_rules::Rules;
 use std::alloc::AllocError;
 
 /// The event of a built-in that succeeds: it shows what was printed, if anything was.
@@ -39,18 +41,24 @@ fn event_of(events: &mut Events) -> Event
 }
 
 impl Machine {
-    /// One move of the search: its event, and the machine after it. Awake constraints come first, and
-    /// then the first goal. After `Failure` and `Fault` it answers the same again. `AllocError` is want
+    /// One move of the search: its event, and the machine after it. Awake constraints come first, then
+    /// the first instance of a rule, and then the first goal. After `Failure` and `Fault` it answers the same again. `AllocError` is want
     /// of memory alone, and comes again from then on.
-    pub fn step<C: Clauses>(&mut self, code: &C, symbols: &Symbols) -> Result<Event, AllocError>
+    pub fn step<C: Clauses, R: Rules>(
+        &mut self,
+        code: &C,
+        rules: &R,
+        symbols: &Symbols,
+    ) -> Result<Event, AllocError>
         requires code { (p : Program) × (C.stands (code_nodes self.old.world) code.now p) }
-        ensures moved { IfOk result (λ e. (p : Program) → C.stands (code_nodes self.old.world) code.now p → p.symbols ≡ symbols.now → p.rules ≡ []
+        requires rules { (p : Program) × (R.stands (code_nodes self.old.world) rules.now p) }
+        ensures moved { IfOk result (λ e. (p : Program) → C.stands (code_nodes self.old.world) code.now p → R.stands (code_nodes self.old.world) rules.now p → p.symbols ≡ symbols.now
             → HasMoved p (next unify p (state_of p self.old)) e self.new) }
         ensures starved { OnErr result (self.new.phase ≡ Starved) }
         ensures stays { OnOk result (self.old.phase ≢ Starved) }
         ensures code { code_nodes self.new.world ≡ code_nodes self.old.world }
     {
-        match self.advance(code, symbols) {
+        match self.advance(code, rules, symbols) {
             Ok(event) => Ok(event),
             Err(AllocError) => {
                 self.set_phase(Phase::Starved);
@@ -60,15 +68,21 @@ impl Machine {
     }
 
     /// One move; after want of memory nothing is said of the machine but that it can be used.
-    fn advance<C: Clauses>(&mut self, code: &C, symbols: &Symbols) -> Result<Event, AllocError>
+    fn advance<C: Clauses, R: Rules>(
+        &mut self,
+        code: &C,
+        rules: &R,
+        symbols: &Symbols,
+    ) -> Result<Event, AllocError>
         requires code { (p : Program) × (C.stands (code_nodes self.old.world) code.now p) }
-        ensures moved { IfOk result (λ e. (p : Program) → C.stands (code_nodes self.old.world) code.now p → p.symbols ≡ symbols.now → p.rules ≡ []
+        requires rules { (p : Program) × (R.stands (code_nodes self.old.world) rules.now p) }
+        ensures moved { IfOk result (λ e. (p : Program) → C.stands (code_nodes self.old.world) code.now p → R.stands (code_nodes self.old.world) rules.now p → p.symbols ≡ symbols.now
             → HasMoved p (next unify p (state_of p self.old)) e self.new) }
         ensures stays { OnOk result (self.old.phase ≢ Starved) }
         ensures code { code_nodes self.new.world ≡ code_nodes self.old.world }
     {
         match self.phase() {
-            Phase::Running => self.run(code, symbols),
+            Phase::Running => self.run(code, rules, symbols),
             Phase::Answered => self.retry(code),
             Phase::Failed => self.retry(code),
             Phase::Exhausted => Ok(Event::Failure),
@@ -77,11 +91,18 @@ impl Machine {
         }
     }
 
-    /// The awake constraints, if there are any; else the first goal, or an answer.
-    fn run<C: Clauses>(&mut self, code: &C, symbols: &Symbols) -> Result<Event, AllocError>
+    /// The awake constraints, if there are any; else the first instance of a rule; else the first goal, or
+    /// an answer.
+    fn run<C: Clauses, R: Rules>(
+        &mut self,
+        code: &C,
+        rules: &R,
+        symbols: &Symbols,
+    ) -> Result<Event, AllocError>
         requires running { self.old.phase ≡ Running }
         requires code { (p : Program) × (C.stands (code_nodes self.old.world) code.now p) }
-        ensures moved { IfOk result (λ e. (p : Program) → C.stands (code_nodes self.old.world) code.now p → p.symbols ≡ symbols.now → p.rules ≡ []
+        requires rules { (p : Program) × (R.stands (code_nodes self.old.world) rules.now p) }
+        ensures moved { IfOk result (λ e. (p : Program) → C.stands (code_nodes self.old.world) code.now p → R.stands (code_nodes self.old.world) rules.now p → p.symbols ≡ symbols.now
             → HasMoved p (next unify p (state_of p self.old)) e self.new) }
         ensures code { code_nodes self.new.world ≡ code_nodes self.old.world }
     {
@@ -89,15 +110,23 @@ impl Machine {
         if woken {
             return Ok(Event::Moved);
         }
-        self.run_first(code, symbols)
+        match self.next_rule(rules) {
+            Ok(None) => self.run_first(code, symbols),
+            Ok(Some(firing)) => {
+                self.fire(firing)?;
+                Ok(Event::Moved)
+            }
+            Err(UnifyStop::Fault(e)) => Ok(self.break_off(e)),
+            Err(UnifyStop::Memory) => Err(AllocError),
+        }
     }
 
-    /// The first goal, or an answer. No constraint is awake.
+    /// The first goal, or an answer. No constraint is awake, and no rule has an instance.
     fn run_first<C: Clauses>(&mut self, code: &C, symbols: &Symbols) -> Result<Event, AllocError>
         requires running { self.old.phase ≡ Running }
         requires asleep { filter is_awake (branch_of self.old).store ≡ [] }
         requires code { (p : Program) × (C.stands (code_nodes self.old.world) code.now p) }
-        ensures moved { IfOk result (λ e. (p : Program) → C.stands (code_nodes self.old.world) code.now p → p.symbols ≡ symbols.now → p.rules ≡ []
+        ensures moved { IfOk result (λ e. (p : Program) → C.stands (code_nodes self.old.world) code.now p → p.symbols ≡ symbols.now → first_of p.rules (branch_of self.old) ≡ None
             → HasMoved p (next unify p (state_of p self.old)) e self.new) }
         ensures code { code_nodes self.new.world ≡ code_nodes self.old.world }
     {
@@ -122,7 +151,7 @@ impl Machine {
         requires asleep { filter is_awake (branch_of self.old).store ≡ [] }
         requires first { IsFirst self.old goal.now }
         requires code { (p : Program) × (C.stands (code_nodes self.old.world) code.now p) }
-        ensures moved { IfOk result (λ e. (p : Program) → C.stands (code_nodes self.old.world) code.now p → p.symbols ≡ symbols.now → p.rules ≡ []
+        ensures moved { IfOk result (λ e. (p : Program) → C.stands (code_nodes self.old.world) code.now p → p.symbols ≡ symbols.now → first_of p.rules (branch_of self.old) ≡ None
             → HasMoved p (next unify p (state_of p self.old)) e self.new) }
         ensures code { code_nodes self.new.world ≡ code_nodes self.old.world }
     {

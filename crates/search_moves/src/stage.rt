@@ -23,12 +23,15 @@ ghost use Rattle.ref_terms.specs.terms.Apply.{apply};
 ghost use Rattle.ref_terms.specs.search.Program.{Program, Clause};
 ghost use Rattle.search_moves.specs.Instances.{IsInstanceOf, IsMadeOf, IsBodyOver};
 ghost use Rattle.search_moves.specs.Moves.{LeavesRest, Growing};
-ghost use Rattle.suspend.specs.Store.{joins, leaves, stored, stored_at, is_stored};
+ghost use Rattle.suspend.specs.Store.{joins, leaves, fires, stored, stored_at, firings, is_stored, has_fired};
 ghost use Rattle.suspend.specs.Keyed.{first_awake, Keyed};
 ghost use Rattle.search_moves.specs.Reading.{constraint_in};
 ghost use Rattle.ref_terms.specs.unification.Spine.{args_of};
 ghost use Rattle.clause_key.specs.Keys.{key_among};
 ghost use Rattle.clause_key.specs.Seen.{IsSeenAmong};
+ghost use Rattle.ref_terms.specs.search.Branch.{Branch};
+ghost use Rattle.sequent_rules.specs.Branches.{IsSeenAs};
+ghost use Rattle.sequent_rules.specs.Instances.{Answers, StopsBy, first_of, Leaves, ReadsAsBefore};
 
 use crate::clauses::{Clauses, Instance};
 use crate::frame::{Frame, Mark};
@@ -43,9 +46,10 @@ use input_match::match_arg;
 use level_terms::{Change, Heap, TermId, TermIds, VarId};
 use lp_resolve::Symbols;
 use ref_terms::Choice;
+use sequent_rules::{Firing, Rules, next_rule};
 use std::alloc::{AllocError, Global};
 use std::marker::Model;
-use suspend::{Constraint, Store};
+use suspend::{Constraint, Fired, Store};
 use trail::Trail;
 
 /// An assumption in the heap, over variables of its own.
@@ -450,6 +454,53 @@ impl Stage {
         };
         self.store.remove(id)?;
         Ok(goal)
+    }
+
+    /// The first instance of a rule. Without one the heap is as it was.
+    pub(crate) fn next_rule<C: Rules>(&mut self, rules: &C) -> Result<Option<Firing>, UnifyStop>
+        requires base { self.old.base ≤ length self.old.heap.nodes }
+        requires rules { (p : Program) × (C.stands (code_nodes self.old) rules.now p) }
+        requires constraints { AllConstraints self.old.heap (stored self.old.log) }
+        ensures answer { IfOk result (λ o. (p : Program) (b : Branch) → C.stands (code_nodes self.old) rules.now p → IsSeenAs self.old.heap self.old.log b
+            → Answers self.new.heap o (first_of p.rules b)) }
+        ensures stops { IfErr result (λ stop. (p : Program) (b : Branch) → C.stands (code_nodes self.old) rules.now p → IsSeenAs self.old.heap self.old.log b
+            → StopsBy stop (first_of p.rules b)) }
+        ensures leaves { IfOk result (Leaves self.old.heap self.new.heap) }
+        ensures readings { ReadsAsBefore self.old.heap self.new.heap }
+        ensures grows { Growing self.old.heap self.new.heap }
+        ensures rest { LeavesRest self.old self.new }
+    {
+        let noted = self.trail.mark();
+        self.heap.is_sound();
+        let answer = next_rule(
+            self.alloc,
+            &mut self.heap,
+            &mut self.trail,
+            &self.store,
+            rules,
+        );
+        self.store.follow(&self.heap, self.trail.since(noted));
+        answer
+    }
+
+    /// Takes a constraint out of the store.
+    pub(crate) fn remove(&mut self, id: u64) -> Result<(), AllocError>
+        requires { is_stored self.old.log id ≡ true }
+        ensures ok { OnOk result (self.new ≡ record self.old { log = leaves id ∷ self.old.log }) }
+        ensures err { OnErr result (self.new ≡ self.old) }
+    {
+        self.store.remove(id)?;
+        Ok(())
+    }
+
+    /// Notes that a rule fired.
+    pub(crate) fn note_firing(&mut self, pair: Fired) -> Result<(), AllocError>
+        requires { has_fired (firings self.old.log) pair ≡ false }
+        ensures ok { OnOk result (self.new ≡ record self.old { log = fires pair ∷ self.old.log }) }
+        ensures err { OnErr result (self.new ≡ self.old) }
+    {
+        self.store.fire(pair)?;
+        Ok(())
     }
 
     /// Lets a visitor look at the query's variables and the suspended goals, and takes back what it

@@ -1,5 +1,5 @@
 use Rattle.std.proofs.Common.{List, [], ◌++◌, map, subst}
-use Rattle.level_terms.proofs.GrowthLemmas.{grows-refl, grows-trans}
+use Rattle.level_terms.proofs.GrowthLemmas.{grows-trans}
 use Rattle.beta_fragment.specs.HeadForm.{all_read}
 use Rattle.ref_terms.specs.search.Branch.{Constraint}
 use Rattle.suspend.specs.Store.{stored}

@@ -1,4 +1,4 @@
-use Rattle.std.proofs.Common.{◌≡◌, [], sym, ◌∙◌}
+use Rattle.std.proofs.Common.{◌≡◌, sym, ◌∙◌}
 use Rattle.ref_terms.specs.search.Program.{Program}
 use Rattle.search_moves.specs.declared.machine.Event.{Event}
 use Rattle.search_moves.specs.World.{code_nodes}
@@ -16,8 +16,8 @@ returns-in-Answered-clause-moved g c =
     let new = c.retry.new.self in
     if-ok c.retry.result
     (λ (e : Event). (p : Program) → g.C.Clauses.stands (code_nodes old.world) c.args.code.now p → HasMoved p (retry unify p (alternatives_of p old)) e new)
-    (λ (e : Event). (p : Program) → g.C.Clauses.stands (code_nodes old.world) c.args.code.now p → p.symbols ≡ c.args.symbols.now → p.rules ≡ [] → HasMoved p (next unify p (state_of p old)) e new)
-    (λ e h p stands known none. moved-as p (next unify p (state_of p old)) (retry unify p (alternatives_of p old)) e new (next-answered p old (sym c.phase.ensures ∙ c.in-Answered.is)) (h p stands))
+    (λ (e : Event). (p : Program) → g.C.Clauses.stands (code_nodes old.world) c.args.code.now p → g.R.Rules.stands (code_nodes old.world) c.args.rules.now p → p.symbols ≡ c.args.symbols.now → HasMoved p (next unify p (state_of p old)) e new)
+    (λ e h p stands rules known. moved-as p (next unify p (state_of p old)) (retry unify p (alternatives_of p old)) e new (next-answered p old (sym c.phase.ensures ∙ c.in-Answered.is)) (h p stands))
     c.retry.ensures.moved
 
 pub returns-in-Failed-clause-moved : goal.returns-in-Failed-clause-moved
@@ -26,18 +26,18 @@ returns-in-Failed-clause-moved g c =
     let new = c.retry-in-Failed.new.self in
     if-ok c.retry-in-Failed.result
     (λ (e : Event). (p : Program) → g.C.Clauses.stands (code_nodes old.world) c.args.code.now p → HasMoved p (retry unify p (alternatives_of p old)) e new)
-    (λ (e : Event). (p : Program) → g.C.Clauses.stands (code_nodes old.world) c.args.code.now p → p.symbols ≡ c.args.symbols.now → p.rules ≡ [] → HasMoved p (next unify p (state_of p old)) e new)
-    (λ e h p stands known none. moved-as p (next unify p (state_of p old)) (retry unify p (alternatives_of p old)) e new (next-failed p old (sym c.phase.ensures ∙ c.in-Failed.is)) (h p stands))
+    (λ (e : Event). (p : Program) → g.C.Clauses.stands (code_nodes old.world) c.args.code.now p → g.R.Rules.stands (code_nodes old.world) c.args.rules.now p → p.symbols ≡ c.args.symbols.now → HasMoved p (next unify p (state_of p old)) e new)
+    (λ e h p stands rules known. moved-as p (next unify p (state_of p old)) (retry unify p (alternatives_of p old)) e new (next-failed p old (sym c.phase.ensures ∙ c.in-Failed.is)) (h p stands))
     c.retry-in-Failed.ensures.moved
 
 pub returns-in-Exhausted-clause-moved : goal.returns-in-Exhausted-clause-moved
-returns-in-Exhausted-clause-moved g c = λ p stands known none.
+returns-in-Exhausted-clause-moved g c = λ p stands rules known.
     let old = c.args.self.now in
     let is = sym c.phase.ensures ∙ c.in-Exhausted.is in
     moved-as p (next unify p (state_of p old)) (stops Failure) event.Failure old (next-exhausted p old is) (exhausted p old is)
 
 pub returns-in-Broken-clause-moved : goal.returns-in-Broken-clause-moved
-returns-in-Broken-clause-moved g c = λ p stands known none.
+returns-in-Broken-clause-moved g c = λ p stands rules known.
     let old = c.args.self.now in
     let is = sym c.phase.ensures ∙ c.in-Broken.is in
     moved-as p (next unify p (state_of p old)) (faults c.in-Broken.e) (event.Fault c.in-Broken.e) old (next-broken p old c.in-Broken.e is) (broken p old c.in-Broken.e is)

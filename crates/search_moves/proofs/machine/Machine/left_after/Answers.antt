@@ -1,12 +1,9 @@
-use Rattle.std.proofs.Common.{◌≡◌, [], ◌∷◌, ◌∙◌, suc, drop, List, Option, Some, None, sym, ap, subst, arith}
-use Rattle.hyp_clause.specs.declared.hyp.Hyp.{Hyp}
+use Rattle.std.proofs.Common.{◌≡◌, [], ◌∙◌, suc, sym, ap, subst, arith}
 use Rattle.hyp_clause.specs.Hyps.{AllHypsValid}
 use Rattle.clause_key.specs.Passing.{IsNextFor}
 use Rattle.ref_terms.specs.search.Program.{modes_of}
 use Rattle.ref_terms.specs.search.Candidates.{program_candidates}
-use Rattle.search_moves.specs.declared.frame.Later.TheVariants.{Assumptions}
 use Rattle.search_moves.specs.World.{AllUsable}
-use Rattle.search_moves.specs.Reading.{later_of}
 use Rattle.search_moves.specs.Machine.{branch_of}
 use Rattle.search_moves.specs.Calling.{IsLeftAfter, AllHypsClash, clauses_from, left_from}
 use Rattle.search_moves.proofs.GrowLemmas.{match-some, match-none}

@@ -1,4 +1,4 @@
-use Rattle.std.proofs.Common.{◌≡◌, List, length, subst, sym, ap, arith}
+use Rattle.std.proofs.Common.{length, subst, sym, ap, arith}
 use Rattle.hyp_clause.specs.Hyps.{AllHypsValid}
 use Rattle.search_moves.specs.World.{AllUsable}
 use Rattle.search_moves.specs.Calling.{AllHypsClash}

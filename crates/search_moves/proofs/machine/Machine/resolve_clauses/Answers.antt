@@ -1,6 +1,5 @@
 use Rattle.std.proofs.Common.{◌∙◌, sym, ap}
 use Rattle.search_moves.specs.World.{code_nodes}
-use Rattle.search_moves.specs.Calling.{key_of_call}
 use Rattle.search_moves.proofs.machine.Machine.resolve_clauses.Goals as goal
 
 pub resolve-requires-clause-code : goal.resolve-requires-clause-code

@@ -1,6 +1,5 @@
 use Rattle.std.proofs.Common.{◌∙◌, sym, ap}
 use Rattle.search_moves.specs.World.{code_nodes}
-use Rattle.search_moves.specs.Calling.{key_of_call}
 use Rattle.search_moves.proofs.machine.Machine.resolve_from.Goals as goal
 
 pub resolve_by-requires-clause-code : goal.resolve_by-requires-clause-code

@@ -1,8 +1,7 @@
-use Rattle.std.proofs.Common.{◌≡◌, ◌∷◌, [], ◌∙◌, suc, drop, IfSome, List, sym, ap, subst, arith, length, length-append}
+use Rattle.std.proofs.Common.{◌∷◌, [], ◌∙◌, suc, IfSome, List, sym, ap, subst, arith, length, length-append}
 use Rattle.level_terms.specs.declared.node.TermId.{TermId}
 use Rattle.beta_fragment.specs.HeadForm.{all_read, AllValidAt}
 use Rattle.hyp_clause.specs.Hyps.{assumption_in}
-use Rattle.hyp_clause.specs.declared.hyp.Hyp.{Hyp}
 use Rattle.hyp_context.specs.Contexts.{hyps_for}
 use Rattle.ref_terms.specs.declared.path.Choice.TheVariants.{Hyp as ByAssumption}
 use Rattle.ref_terms.specs.search.State.{of_assumption}
