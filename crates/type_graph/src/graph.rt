@@ -1,7 +1,7 @@
 //! Graphs of types.
 ghost use Rattle.std.specs.Prelude.{ℕ, ◌≡◌, ◌<◌, ◌++◌, ◌+◌, [], ◌∷◌, length, OnOk, OnErr, IfOk};
 ghost use Rattle.type_graph.specs.Types.{Ty, word, applied};
-ghost use Rattle.type_graph.specs.Graph.{IsSound, IsMostGeneral, Solves, LeadsBelow, IsMade, node_at};
+ghost use Rattle.type_graph.specs.Graph.{IsSound, IsMostGeneral, IsDescending, IsAcyclic, Solves, LeadsBelow, IsMade, node_at};
 ghost use Rattle.type_graph.specs.Solved.{Unified, Adds};
 ghost use Rattle.type_graph.specs.declared.node.Node.TheVariants.{Free, Leaf, Apply};
 
@@ -46,11 +46,14 @@ impl Graph {
         }
     }
 
-    /// How many nodes there are. What holds of every graph: whatever types its free nodes have, it has exactly one solution.
+    /// How many nodes there are. What holds of every graph: whatever types its free nodes have, it has exactly one solution;
+    /// no node leads back to itself, and what stands for another node stands for one with a lower number.
     pub fn len(&self) -> usize
         ensures length { result ≡ length self.now }
         ensures sound { IsSound self.now }
         ensures general { IsMostGeneral (node_at self.now) }
+        ensures acyclic { IsAcyclic (node_at self.now) }
+        ensures descending { IsDescending (node_at self.now) }
     {
         self.nodes.len()
     }
@@ -97,6 +100,14 @@ impl Graph {
             &mut self.queue,
             &mut self.pairs,
         )
+    }
+
+    /// What a node says.
+    pub fn node(&self, index: usize) -> Node
+        requires { index < length self.now }
+        ensures { result ≡ node_at self.now index }
+    {
+        self.nodes[index]
     }
 
     /// The node that stands for a node: it has the same type in each solution, and stands for no other one.
