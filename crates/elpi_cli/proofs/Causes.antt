@@ -22,9 +22,8 @@ use Rattle.lp_resolve.specs.StaticRules.{Breach, first_breach}
 use Rattle.elpi_cli.specs.Resolved.{resolved_program, searched_program, searched_query}
 use Rattle.elpi_cli.specs.Static.{breach_line}
 use Rattle.elpi_cli.specs.Texts.{files_read, items_of, FileItems, all_items, items_read, goal_of}
-use Rattle.elpi_cli.specs.Built.{unbuilt_file, not_yet_line}
-use Rattle.elpi_cli.specs.Top.{output, task_of, task_output, command_output, files_output, texts_output, checked_output, query_output, built_output, word_at, file_names, files_for, known_files, IsReached, IsStatusOf, IsRunOf}
-use Rattle.elpi_cli.specs.Causes.{EndsWith, IsFailure, ComesBy, ComesExactlyBy, IsComplete, IsBadWord, IsMissing, IsTooLong, IsReady, IsRefusedFile, AreChecked, IsRefusedProgram, IsRefusedQuery, IsUnbuiltFile, IsRefused, Searches, Shows, IsFault, IsOutOfSteps, IsNoAnswer, IsDone}
+use Rattle.elpi_cli.specs.Top.{output, task_of, task_output, command_output, files_output, texts_output, checked_output, query_output, word_at, file_names, files_for, known_files, IsReached, IsStatusOf, IsRunOf}
+use Rattle.elpi_cli.specs.Causes.{EndsWith, IsFailure, ComesBy, ComesExactlyBy, IsComplete, IsBadWord, IsMissing, IsTooLong, IsReady, IsRefusedFile, AreChecked, IsRefusedProgram, IsRefusedQuery, IsRefused, Searches, Shows, IsFault, IsOutOfSteps, IsNoAnswer, IsDone}
 use Rattle.elpi_cli.proofs.CausesSearch.{SearchCause, search-cause, search-status}
 use Rattle.elpi_cli.proofs.CausesTexts.{IsFileRefusal, within-files, missing-file, long-file, refused-file, refused-file-text, refused-text, missing_line, too_long_line}
 
@@ -52,16 +51,14 @@ of-search words told limit shown shows Fault last h = (limit, shown, shows, h)
 of-search words told limit shown shows Budget last h = (limit, shown, shows, h)
 of-search words told limit shown shows status last h = absurd h
 
--- the cause, where all texts are accepted and this is the first file that isn't built
-by-built : (words : List (List ℕ)) (told : List FileEntry) (steps answers : ℕ) (query : List ℕ) (files : List FileEntry) (items : List FileItems) (goal : AstTerm) (unbuilt : Option (List ℕ)) → IsReady words told steps answers query files → AreChecked files items → goal_of query ≡ Ok goal → unbuilt_file items ≡ unbuilt
-    → HasCauseIn words told (built_output steps answers items goal unbuilt)
-by-built words told steps answers query files items goal (Some name) ready checked goal_is is =
-    (not_yet_line name, (steps, answers, query, files, ready, inr (inr (inr (items, checked, rw goal_is refl, name, is, refl)))), ([], refl))
-by-built words told steps answers query files items goal None ready checked goal_is is =
+-- the cause, where all texts are accepted
+by-search : (words : List (List ℕ)) (told : List FileEntry) (steps answers : ℕ) (query : List ℕ) (files : List FileEntry) (items : List FileItems) (goal : AstTerm) → IsReady words told steps answers query files → AreChecked files items → goal_of query ≡ Ok goal
+    → HasCauseIn words told (query_output steps answers items (Ok goal))
+by-search words told steps answers query files items goal ready checked goal_is =
     let p = searched_program (all_items items) goal in
     let q = searched_query (all_items items) goal in
     let shown = events unify p steps (first_state q) in
-    let searches : Searches words told p q steps answers = record { text = query; files = files; items = items; goal = goal; ready = ready; checked = checked; goal_is = goal_is; built = is; program_is = refl; query_is = refl } in
+    let searches : Searches words told p q steps answers = record { text = query; files = files; items = items; goal = goal; ready = ready; checked = checked; goal_is = goal_is; program_is = refl; query_is = refl } in
     let found = search-cause p.symbols q.variables answers shown in
     (found.0, of-search words told answers shown (p, q, steps, searches, refl) (written p.symbols q.variables answers 0 shown).status found.0 found.1, found.2)
 
@@ -69,8 +66,8 @@ by-built words told steps answers query files items goal None ready checked goal
 by-goal : (words : List (List ℕ)) (told : List FileEntry) (steps answers : ℕ) (query : List ℕ) (files : List FileEntry) (items : List FileItems) (goal : Result AstTerm (List ℕ)) → IsReady words told steps answers query files → AreChecked files items → goal_of query ≡ goal
     → HasCauseIn words told (query_output steps answers items goal)
 by-goal words told steps answers query files items (Err last) ready checked is =
-    (last, (steps, answers, query, files, ready, inr (inr (inl (items, checked, is)))), ([], refl))
-by-goal words told steps answers query files items (Ok goal) ready checked is = by-built words told steps answers query files items goal (unbuilt_file items) ready checked is refl
+    (last, (steps, answers, query, files, ready, inr (inr (items, checked, is))), ([], refl))
+by-goal words told steps answers query files items (Ok goal) ready checked is = by-search words told steps answers query files items goal ready checked is
 
 -- the cause, where the texts of all files are accepted
 by-breach : (words : List (List ℕ)) (told : List FileEntry) (steps answers : ℕ) (query : List ℕ) (files : List FileEntry) (items : List FileItems) (breach : Option Breach) → IsReady words told steps answers query files → items_read 0 files ≡ Ok items → first_breach (resolved_program (all_items items)) ≡ breach
@@ -149,23 +146,16 @@ unbroken-output : (steps answers : ℕ) (query : List ℕ) (files : List FileEnt
     → texts_output steps answers query files (items_read 0 files) ≡ query_output steps answers items (goal_of query)
 unbroken-output steps answers query files items checked = read-output steps answers query files items checked.0 ∙ ap (checked_output steps answers query files items) checked.1
 
--- where a file isn't built, it is refused, or else the query is
-unbuilt-status : (steps answers : ℕ) (items : List FileItems) (name : List ℕ) (goal : Result AstTerm (List ℕ)) → unbuilt_file items ≡ Some name → (query_output steps answers items goal).status ≡ Refused
-unbuilt-status steps answers items name (Err last) is = refl
-unbuilt-status steps answers items name (Ok goal) is = ap (λ (u : Option (List ℕ)). (built_output steps answers items goal u).status) is
-
 -- a text that has a cause to be refused is refused
 refused-output : (words : List (List ℕ)) (told : List FileEntry) (steps answers : ℕ) (query : List ℕ) (files : List FileEntry) (last : List ℕ)
-    → IsRefusedFile files last ⊎ (IsRefusedProgram files last ⊎ (IsRefusedQuery files query last ⊎ IsUnbuiltFile files query last)) → (texts_output steps answers query files (items_read 0 files)).status ≡ Refused
+    → IsRefusedFile files last ⊎ (IsRefusedProgram files last ⊎ IsRefusedQuery files query last) → (texts_output steps answers query files (items_read 0 files)).status ≡ Refused
 refused-output words told steps answers query files last (inl h) =
     let none = subst (λ (n : ℕ). items_of h.1.name n h.1.bytes ≡ Err last) (sym (zero-add (length h.0))) h.5 in
     ap (λ (r : Result (List FileItems) Output). (texts_output steps answers query files r).status) (ap (items_read 0) h.3 ∙ refused-file-text 0 h.0 h.1 h.2 last h.4 none)
 refused-output words told steps answers query files last (inr (inl h)) =
     ap (λ (o : Output). o.status) (read-output steps answers query files h.0 h.1 ∙ ap (checked_output steps answers query files h.0) h.3)
-refused-output words told steps answers query files last (inr (inr (inl h))) =
+refused-output words told steps answers query files last (inr (inr h)) =
     ap (λ (o : Output). o.status) (unbroken-output steps answers query files h.0 h.1 ∙ ap (query_output steps answers h.0) h.2)
-refused-output words told steps answers query files last (inr (inr (inr h))) =
-    ap (λ (o : Output). o.status) (unbroken-output steps answers query files h.0 h.1) ∙ unbuilt-status steps answers h.0 h.3 (goal_of query) h.4
 
 -- the output of a search that is asked for
 search-output : (words : List (List ℕ)) (told : List FileEntry) (program : Program) (query : Query) (steps answers : ℕ) → Searches words told program query steps answers → output words told ≡ searched program query steps answers
@@ -173,7 +163,6 @@ search-output words told program query steps answers s =
     ready-output words told steps answers s.text s.files s.ready
     ∙ unbroken-output steps answers s.text s.files s.items s.checked
     ∙ ap (query_output steps answers s.items) s.goal_is
-    ∙ ap (built_output steps answers s.items s.goal) s.built
     ∙ ap (λ (p : Program). searched p (searched_query (all_items s.items) s.goal) steps answers) (sym s.program_is)
     ∙ ap (λ (q : Query). searched program q steps answers) (sym s.query_is)
 

@@ -10,3 +10,6 @@ pub mod Whole
 pub mod CausesSearch
 pub mod CausesTexts
 pub mod Causes
+pub mod TypingLemmas
+pub mod CheckWords
+pub mod TypedLines

@@ -1,7 +1,6 @@
 -- What reading the texts gives the search.
-use Rattle.std.specs.Prelude.{◌≡◌, ℕ, List, ⊤, None, Some, Ok, Err, codes, option_map, if◌then◌else◌}
+use Rattle.std.specs.Prelude.{◌≡◌, ℕ, List, ⊤, None, Some, Ok, Err, codes}
 use Rattle.std.specs.String.{string_bytes}
-use Rattle.std.specs.declared.option.Option.{Option}
 use Rattle.std.specs.declared.result.Result.{Result}
 use Rattle.lam_io.specs.declared.byte_text.FileEntry.{FileEntry}
 use Rattle.lp_lexer.specs.Lexing.{Lexed}
@@ -16,7 +15,6 @@ use Rattle.lp_resolve.specs.StaticRules.{Breach, first_breach}
 use Rattle.lp_resolve.specs.Plain.{plain_program, plain_query}
 use Rattle.ref_terms.specs.search.Events.{first_state}
 use Rattle.elpi_cli.specs.declared.built.Engine.{Engine}
-use Rattle.elpi_cli.specs.declared.texts.ProgramText.{ProgramText}
 use Rattle.elpi_cli.specs.declared.texts.TextStop.{TextStop}
 use Rattle.elpi_cli.specs.declared.texts.TextStop.TheVariants.{Refused, Memory}
 use Rattle.goal_run.specs.Machine.{Runs, state_of}
@@ -25,10 +23,8 @@ use Rattle.elpi_cli.specs.Output.{line_only}
 use Rattle.elpi_cli.specs.Top.{texts_output}
 use Rattle.elpi_cli.specs.declared.status.Status.TheVariants as Status
 use Rattle.elpi_cli.specs.Resolved.{program_table, resolved_program, query_table, resolved_query}
-use Rattle.elpi_cli.specs.Forms.{are_built}
 use Rattle.elpi_cli.specs.Texts.{FileItems, all_items, items_read, grammar_name, grammar_line}
-use Rattle.elpi_cli.specs.Built.{unbuilt_file}
-use Rattle.elpi_cli.specs.Static.{file_with, breach_line}
+use Rattle.elpi_cli.specs.Static.{breach_line}
 
 -- the text is refused with this line, unless memory is wanting
 abbrev pub IsRefusal : List ℕ → TextStop → Type 0
@@ -83,23 +79,9 @@ pub record IsEngineFor (program : Program) (query : Query) (table : List (List �
 abbrev pub IsEngineOf : List Item → AstTerm → Engine → Type 0
 IsEngineOf items goal engine = IsEngineFor (resolved_program items) (resolved_query items goal) (query_table items goal) engine
 
--- the name of the file with a number
-abbrev pub name_at : List FileEntry → (number : ℕ) → List ℕ
-name_at files number = (file_with files number).name
-
--- the first file that isn't built, after one more with this number and these items
-abbrev pub or_unbuilt : Option ℕ → (number : ℕ) → List Item → Option ℕ
-or_unbuilt (Some first) number items = Some first
-or_unbuilt None number items = if are_built items then None else Some number
-
--- the items of all files, and the number of the first file that isn't built
-pub record IsProgramText (files : List FileEntry) (items : List FileItems) (ast : List Item) (unbuilt : Option ℕ) : Type 0 where
-  pub ast_is : ast ≡ all_items items
-  pub unbuilt_is : unbuilt_file items ≡ option_map (name_at files) unbuilt
-
 -- what reading the texts of files may answer
-abbrev pub ReadsProgram : List FileEntry → Result ProgramText TextStop → Type 0
-ReadsProgram files (Ok program) = (items : List FileItems) × (items_read 0 files ≡ Ok items) × IsProgramText files items program.ast program.unbuilt
+abbrev pub ReadsProgram : List FileEntry → Result (List Item) TextStop → Type 0
+ReadsProgram files (Ok ast) = (items : List FileItems) × (items_read 0 files ≡ Ok items) × (ast ≡ all_items items)
 ReadsProgram files (Err (Refused last)) = items_read 0 files ≡ Err (line_only (string_bytes last) Status.Refused)
 ReadsProgram files (Err Memory) = ⊤
 

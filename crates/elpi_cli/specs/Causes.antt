@@ -23,7 +23,6 @@ use Rattle.lp_resolve.specs.StaticRules.{Breach, first_breach}
 use Rattle.elpi_cli.specs.Resolved.{resolved_program, searched_program, searched_query}
 use Rattle.elpi_cli.specs.Static.{breach_line}
 use Rattle.elpi_cli.specs.Texts.{file_limit, items_of, FileItems, all_items, items_read, goal_of}
-use Rattle.elpi_cli.specs.Built.{unbuilt_file, not_yet_line}
 use Rattle.elpi_cli.specs.Top.{task_of, file_names, IsReached}
 
 -- the last piece of the output is this line
@@ -99,17 +98,11 @@ IsRefusedProgram files last =
 abbrev pub IsRefusedQuery : List FileEntry → (query last : List ℕ) → Type 0
 IsRefusedQuery files query last = (items : List FileItems) × AreChecked files items × (goal_of query ≡ Err last)
 
--- all texts are accepted and break no static rule, and the first file that isn't built has this line
-abbrev pub IsUnbuiltFile : List FileEntry → (query last : List ℕ) → Type 0
-IsUnbuiltFile files query last =
-    (items : List FileItems) × AreChecked files items × IsOk (goal_of query)
-    × (name : List ℕ) × (unbuilt_file items ≡ Some name) × (last ≡ not_yet_line name)
-
 -- all files are read, and the first refusal of a text has this line
 abbrev pub IsRefused : List (List ℕ) → List FileEntry → (last : List ℕ) → Type 0
 IsRefused words told last =
     (steps : ℕ) × (answers : ℕ) × (query : List ℕ) × (files : List FileEntry) × IsReady words told steps answers query files
-    × (IsRefusedFile files last ⊎ (IsRefusedProgram files last ⊎ (IsRefusedQuery files query last ⊎ IsUnbuiltFile files query last)))
+    × (IsRefusedFile files last ⊎ (IsRefusedProgram files last ⊎ IsRefusedQuery files query last))
 
 -- the words and the files ask for the search of this query over this program, with at most so many steps and answers
 pub record Searches (words : List (List ℕ)) (told : List FileEntry) (program : Program) (query : Query) (steps answers : ℕ) : Type 0 where
@@ -120,7 +113,6 @@ pub record Searches (words : List (List ℕ)) (told : List FileEntry) (program :
   pub ready : IsReady words told steps answers text files
   pub checked : AreChecked files items
   pub goal_is : goal_of text ≡ Ok goal
-  pub built : unbuilt_file items ≡ None
   pub program_is : program ≡ searched_program (all_items items) goal
   pub query_is : query ≡ searched_query (all_items items) goal
 

@@ -1,14 +1,14 @@
 pub mod Begins
-pub mod Built
 pub mod Causes
 pub mod ExitStatus
-pub mod Forms
 pub mod Output
 pub mod Positions
 pub mod Resolved
+pub mod Runs
 pub mod Samples
 pub mod Static
 pub mod Texts
+pub mod Typed
 pub mod Top
 pub mod Words
 pub mod Written

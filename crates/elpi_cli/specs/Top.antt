@@ -19,22 +19,16 @@ use Rattle.lp_resolve.specs.StaticRules.{Breach, first_breach}
 use Rattle.elpi_cli.specs.Resolved.{resolved_program, searched_program, searched_query}
 use Rattle.elpi_cli.specs.Static.{breach_line}
 use Rattle.elpi_cli.specs.Texts.{file_limit, files_read, goal_of, FileItems, all_items, items_read}
-use Rattle.elpi_cli.specs.Built.{unbuilt_file, not_yet_line}
 use Rattle.elpi_cli.specs.Written.{IsWholePieces}
 
 -- the word at an index
 abbrev pub word_at : List (List ℕ) → ℕ → List ℕ
 word_at words index = slice_index_or words index []
 
--- the search of a goal over the items of the files, or the refusal of the file of this name, which isn't built
-abbrev pub built_output : (steps answers : ℕ) → List FileItems → AstTerm → Option (List ℕ) → Output
-built_output steps answers files goal (Some name) = line_only (not_yet_line name) Refused
-built_output steps answers files goal None = searched (searched_program (all_items files) goal) (searched_query (all_items files) goal) steps answers
-
--- the query over the items of the files, or its refusal
+-- the search of a goal over the items of the files, or the refusal of the query's text
 abbrev pub query_output : (steps answers : ℕ) → List FileItems → Result AstTerm (List ℕ) → Output
 query_output steps answers files (Err last) = line_only last Refused
-query_output steps answers files (Ok goal) = built_output steps answers files goal (unbuilt_file files)
+query_output steps answers files (Ok goal) = searched (searched_program (all_items files) goal) (searched_query (all_items files) goal) steps answers
 
 -- the run over these files with these items, or the refusal of their first breach of a static rule
 abbrev pub checked_output : (steps answers : ℕ) → List ℕ → List FileEntry → List FileItems → Option Breach → Output
@@ -80,8 +74,8 @@ command_output words told (Err index) = line_only (codes "words: bad word at " +
 command_output words told (Ok found) = task_output (task_of words told found)
 
 -- The output of the words over these files: the words, then the files in word order, then their texts by tokens and
--- grammar, then the static rules over all of them, then the query's tokens and grammar, then whether the files are
--- built, then the search. The first refusal decides.
+-- grammar, then the static rules over all of them, then the query's tokens and grammar, then the search. The first
+-- refusal decides.
 abbrev pub output : List (List ℕ) → List FileEntry → Output
 output words told = command_output words told (command words)
 

@@ -1,3 +1,4 @@
 pub mod Prepared
 pub mod Searching
 pub mod Sources
+pub mod Typing

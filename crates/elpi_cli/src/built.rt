@@ -1,14 +1,9 @@
-// From a checked program and a goal to the machine, or the refusal of a file that isn't built.
+// From a checked program and a goal to the machine.
 ghost use Rattle.std.specs.Prelude.{◌≡◌, IfOk};
-ghost use Rattle.std.specs.String.{string_bytes};
 ghost use Rattle.lp_resolve.specs.Queries.{IsFormedQuery};
 ghost use Rattle.elpi_cli.specs.Resolved.{program_table, resolved_program};
-ghost use Rattle.elpi_cli.specs.Built.{not_yet_line};
-ghost use Rattle.elpi_cli.specs.Begins.{IsRefusal, IsEngineFor, IsEngineOf, name_at};
-ghost use Rattle.elpi_cli.specs.inside.Sources.{entries_of};
+ghost use Rattle.elpi_cli.specs.Begins.{IsEngineFor, IsEngineOf};
 
-use crate::sources::Source;
-use crate::texts::TextStop;
 use goal_run::Machine;
 use lp_parser::{Ast, AstGoal};
 use lp_resolve::{Checked, Query, Symbols, resolve_query};
@@ -19,32 +14,6 @@ use std::alloc::{AllocError, Global};
 pub struct Engine {
     pub machine: Machine,
     pub symbols: Symbols,
-}
-
-/// The refusal of the file with a number, which isn't built.
-pub fn not_yet(alloc: Global, sources: &[Source], number: usize) -> TextStop
-    ensures { IsRefusal (not_yet_line (name_at (entries_of sources.now) number)) result }
-{
-    match sources.get(number) {
-        Some(source) => refuse_unbuilt(alloc, source.name.as_str()),
-        None => refuse_unbuilt(alloc, ""),
-    }
-}
-
-// The refusal of a file that isn't built.
-fn refuse_unbuilt(alloc: Global, name: &str) -> TextStop
-    ensures { IsRefusal (not_yet_line name.now) result }
-{
-    match not_yet_text(alloc, name) {
-        Ok(line) => TextStop::Refused(line),
-        Err(_) => TextStop::Memory,
-    }
-}
-
-fn not_yet_text(alloc: Global, name: &str) -> Result<String, AllocError>
-    ensures { IfOk result (λ text. string_bytes text ≡ not_yet_line name.now) }
-{
-    format!(in alloc; "refused: {name}: not yet\n")
 }
 
 // The engine for a query over a program.

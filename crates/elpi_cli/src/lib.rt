@@ -1,9 +1,10 @@
-//! All that the program does: `run` reads the words of a command, runs a query over files, and writes its answers, over
-//! any files and any sink.
+//! All that the program does: `run` reads the words of a command, runs a query over files and writes its answers, or
+//! writes their types, over any files and any sink.
 #![tactic(auto)]
 
 mod built;
-mod forms;
+mod command_check;
+mod commands;
 mod positions;
 mod search;
 mod sources;
@@ -11,10 +12,11 @@ mod static_rules;
 mod status;
 mod texts;
 mod top;
+mod typing;
 mod words;
 
 pub use built::Engine;
+pub use commands::run;
 pub use search::{answer_query, close};
 pub use status::Status;
-pub use top::run;
 pub use words::{Command, WordsStop, read_words};

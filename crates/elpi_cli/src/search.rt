@@ -32,7 +32,7 @@ pub fn close<K: Sink>(sink: &mut K, line: &[u8], status: Status) -> Status
 }
 
 // Writes one piece.
-fn emit<K: Sink>(sink: &mut K, piece: &[u8]) -> Result<(), SinkFailed>
+pub fn emit<K: Sink>(sink: &mut K, piece: &[u8]) -> Result<(), SinkFailed>
     ensures ok { OnOk result (Emits K.told K.faults K.stopped sink.old sink.new
         (all_of (piece.now ∷ [])) Status.Done) }
     ensures err { OnErr result ((rest : Output) → Emits K.told K.faults K.stopped sink.old sink.new

@@ -3,10 +3,9 @@ ghost use Rattle.std.specs.Prelude.{◌≡◌, ◌≤◌, length, IfOk};
 ghost use Rattle.std.specs.String.{string_bytes};
 ghost use Rattle.elpi_cli.specs.Words.{most_files};
 ghost use Rattle.elpi_cli.specs.Texts.{items_of, goal_of, refused_line, token_line, grammar_name, byte_of, grammar_line};
-ghost use Rattle.elpi_cli.specs.Begins.{IsReading, IsReadGoal, IsRefusal, IsGrammarStop, or_unbuilt, ReadsProgram};
+ghost use Rattle.elpi_cli.specs.Begins.{IsReading, IsReadGoal, IsRefusal, IsGrammarStop, ReadsProgram};
 ghost use Rattle.elpi_cli.specs.inside.Sources.{entries_of};
 
-use crate::forms::are_built;
 use crate::positions::{column_at, line_at};
 use crate::sources::Source;
 use lp_lexer::{LexError, Tokens, tokens};
@@ -18,13 +17,6 @@ use std::alloc::{AllocError, Global};
 pub enum TextStop {
     Refused(String),
     Memory,
-}
-
-/// The items of all files in their order, and the number of the first file that isn't built.
-#[derive(Drop)]
-pub struct ProgramText {
-    pub ast: Ast,
-    pub unbuilt: Option<usize>,
 }
 
 impl From<AllocError> for TextStop {
@@ -153,36 +145,24 @@ fn read_items(alloc: Global, name: &str, file: u32, text: &[u8]) -> Result<Ast, 
     }
 }
 
-// The first file that isn't built, after one more with this number and these items.
-fn or_unbuilt(unbuilt: Option<usize>, number: usize, items: &[Item]) -> Option<usize>
-    ensures { result ≡ or_unbuilt unbuilt number items.now }
-{
-    match unbuilt {
-        Some(first) => Some(first),
-        None => { if are_built(items) { None } else { Some(number) } }
-    }
-}
-
 /// The items of the files, each numbered by its place among them, or the refusal of the first text that its tokens or the
 /// grammar refuse.
-pub fn read_program(alloc: Global, sources: &[Source]) -> Result<ProgramText, TextStop>
+pub fn read_program(alloc: Global, sources: &[Source]) -> Result<Ast, TextStop>
     requires { length sources.now ≤ most_files }
     ensures { ReadsProgram (entries_of sources.now) result }
 {
     let mut ast = Ast::new(alloc);
-    let mut unbuilt = None;
     for number in 0..sources.len() {
         let source = &sources[number];
         let text = source.text.as_slice();
         match read_items(alloc, source.name.as_str(), number as u32, text) {
             Err(stop) => return Err(stop),
             Ok(items) => {
-                unbuilt = or_unbuilt(unbuilt, number, items.as_slice());
                 ast.append(items)?;
             }
         }
     }
-    Ok(ProgramText { ast, unbuilt })
+    Ok(ast)
 }
 
 // The goal of a query's text, or the refusal of the text by its tokens or the grammar.

@@ -1,33 +1,34 @@
-// The top call.
+// The commands `run` and `gen`.
 ghost use Rattle.std.specs.Prelude.{◌≡◌, ℕ, ◌≢◌, ◌<◌, ◌≤◌, List, IfSome, IfOk, IsOkAnd, IsErr, IsSome, Some, Ok, length};
 ghost use Rattle.lam_io.specs.Faults.{Rose, HasCause};
 ghost use Rattle.lam_io.specs.Writes.{Appended};
 ghost use Rattle.elpi_cli.specs.Words.{texts, command as command_of, usual_steps, most_files, AllBelow, IsWithin};
 ghost use Rattle.elpi_cli.specs.Samples.{sample_files, sample_query};
 ghost use Rattle.elpi_cli.specs.Written.{IsStop, Emits};
-ghost use Rattle.elpi_cli.specs.Texts.{FileItems};
+ghost use Rattle.elpi_cli.specs.Texts.{FileItems, all_items};
 ghost use Rattle.elpi_cli.specs.Output.{Output, line_only};
-ghost use Rattle.elpi_cli.specs.Begins.{IsRefusal, IsProgramText, BeginsRun};
+ghost use Rattle.elpi_cli.specs.Begins.{IsRefusal, BeginsRun};
 ghost use Rattle.elpi_cli.specs.Top.{output, files_output, known_files, IsRunOf, IsStatusOf};
 ghost use Rattle.elpi_cli.specs.Causes.{ComesBy, ComesExactlyBy, IsComplete, IsDone, IsNoAnswer, IsBadWord, IsRefused, IsFault, IsOutOfSteps, IsMissing, IsTooLong};
 ghost use Rattle.elpi_cli.specs.inside.Prepared.{Prepares, IsOutputOf, HasSomeOutput, IsLineOf, status_of, IsFileStatus, IsTextStatus};
 ghost use Rattle.elpi_cli.specs.inside.Sources.{entries_of};
 
-use crate::built::{Engine, build_engine, not_yet};
+use crate::built::{Engine, build_engine};
 use crate::search::{answer_query, close};
 use crate::sources::{FileStop, Source, read_sources, sample_sources, word_of};
 use crate::static_rules::check_program;
 use crate::status::Status;
-use crate::texts::{ProgramText, TextStop, read_goal, read_program};
+use crate::texts::{TextStop, read_goal, read_program};
 use crate::words::{Command, STEPS, WordsStop, read_words};
 use goal_run::Machine;
 use lam_io::{Files, Sink};
+use lp_parser::Ast;
 use lp_resolve::Symbols;
 use std::alloc::{AllocError, Global};
 
-/// Does all that the program does, with these words: reads the files in the order of the words, runs the query over all of
+/// Does what `run` and `gen` ask for, with these words: reads the files in the order of the words, runs the query over all of
 /// them together, and writes each answer and the last line, each as one piece. It stands on what `files` and `sink` tell.
-pub fn run<F: Files, K: Sink>(
+pub fn search<F: Files, K: Sink>(
     alloc: Global,
     words: &[String],
     files: &mut F,
@@ -224,7 +225,7 @@ fn begin(
 {
     match read_program(alloc, sources) {
         Err(stop) => refused(stop),
-        Ok(program) => match engine_for(alloc, sources, query, &program) {
+        Ok(ast) => match engine_for(alloc, sources, query, &ast) {
             Err(stop) => refused(stop),
             Ok(engine) => Ok(Prepared::Search(Job {
                 machine: engine.machine,
@@ -237,25 +238,17 @@ fn begin(
 }
 
 // Checks the program of the files' items, reads the query, and makes the engine for both.
-fn engine_for(
-    alloc: Global,
-    sources: &[Source],
-    query: &str,
-    program: &ProgramText,
-) -> Result<Engine, TextStop>
-    ensures { (items : List FileItems) → IsProgramText (entries_of sources.now) items program.now.ast program.now.unbuilt → BeginsRun (entries_of sources.now) items query.now result }
+fn engine_for(alloc: Global, sources: &[Source], query: &str, ast: &Ast) -> Result<Engine, TextStop>
+    ensures { (items : List FileItems) → ast.now ≡ all_items items → BeginsRun (entries_of sources.now) items query.now result }
 {
     let mut symbols = Symbols::new(alloc)?;
-    match check_program(alloc, sources, &program.ast, &mut symbols) {
+    match check_program(alloc, sources, ast, &mut symbols) {
         Err(stop) => Err(stop),
         Ok(checked) => match read_goal(alloc, query.as_bytes()) {
             Err(stop) => Err(stop),
-            Ok(goal) => match program.unbuilt {
-                Some(number) => Err(not_yet(alloc, sources, number)),
-                None => match build_engine(alloc, &program.ast, &checked, &goal, symbols) {
-                    Err(_) => Err(TextStop::Memory),
-                    Ok(engine) => Ok(engine),
-                },
+            Ok(goal) => match build_engine(alloc, ast, &checked, &goal, symbols) {
+                Err(_) => Err(TextStop::Memory),
+                Ok(engine) => Ok(engine),
             },
         },
     }

@@ -1,4 +1,4 @@
-//! Whole runs over files and a sink in memory: the worked rows, a line each, the words and options, several files, failing
+//! Whole runs over files and a sink in memory: the worked rows, a line each, constraint rules, the words and options, several files, failing
 //! reads and writes, and the limits.
 //!
 //! The crate has tests alone. Expected values are by hand.
@@ -16,6 +16,8 @@ mod limits;
 mod options;
 #[cfg(test)]
 mod rows;
+#[cfg(test)]
+mod rules;
 #[cfg(test)]
 mod runs;
 #[cfg(test)]

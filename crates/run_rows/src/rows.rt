@@ -158,11 +158,8 @@ p a.b. ¦ p ¦ refused: a:1:4: char / 3
 p \"abc ¦ p ¦ refused: a:1:3: string / 3
 ¦ X = 9223372036854775808 ¦ refused: query:1:5: number / 3
 p. % no more ¦ p ¦ answer 1 / no more / 0
-constraint p { } ¦ p ¦ refused: a: not yet / 3
-p. constraint p { rule (p) <=> true. } ¦ p ¦ refused: a: not yet / 3
 p X :- declare_constraint (q X) [X]. ¦ r ¦ fault: unknown / 4
 p (f declare_constraint). ¦ p X ¦ answer 1 /   X = f declare_constraint / no more / 0
-constraint p { } ¦ declare_constraint true X ¦ refused: a: not yet / 3
 constraint p { } ¦ p ) ¦ refused: query:1:3: query / 3
 constraint p { } fail. ¦ p ) ¦ refused: a:1:18: S5 / 3
 p :- pi declare_constraint\\ q declare_constraint. q X. ¦ p ¦ answer 1 / no more / 0";

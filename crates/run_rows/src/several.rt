@@ -22,7 +22,7 @@ a: p a. ¦ b: p. ⇒ run¦--query¦p )¦b¦a ⇒ refused: a:1:1: S3 / 3
 a: pred p i:t. ¦ b: pred p i:t. ⇒ run¦--query¦p a¦a¦b ⇒ refused: b:1:6: S1 / 3
 a: pred p i:t. ¦ b: pred p i:t. ⇒ run¦--query¦p a¦b¦a ⇒ refused: a:1:6: S1 / 3
 a: p a. ¦ b: p b. ⇒ run¦--query¦p )¦a¦b ⇒ refused: query:1:3: query / 3
-a: p. ¦ b: constraint q { } ¦ c: constraint r { } ⇒ run¦--query¦p¦a¦b¦c ⇒ refused: b: not yet / 3";
+a: p. ¦ b: constraint q { } ¦ c: constraint r { } ⇒ run¦--query¦p¦a¦b¦c ⇒ answer 1 / no more / 0";
 
 #[test]
 fn several_files_are_one_program(rt: HostRuntime) -> Result<(), Fail> {
@@ -53,5 +53,12 @@ fn a_later_read_may_fail(rt: HostRuntime) -> Result<(), Fail> {
 #[test]
 fn the_sample_names_no_file(rt: HostRuntime) -> Result<(), Fail> {
     let alloc = rt.alloc();
-    expect_over(alloc, "", "gen¦20", 1, (0, 0), "refused: gen: not yet / 3")
+    expect_over(
+        alloc,
+        "",
+        "gen¦20",
+        1,
+        (0, 0),
+        "20 / nat / answer 1 /   T = app (app id nat) (app s (app (app id nat) ?0)) /   delayed [] [] ?- of ?0 nat / stopped / 0",
+    )
 }

@@ -24,6 +24,5 @@ pub record HasOutput (table : List (List ℕ)) (m : Machine) (steps limit : ℕ)
   pub program : Program
   pub runs : Runs m program
   pub symbols : program.symbols ≡ table
-  pub no_rules : program.rules ≡ []
   pub counted : IsCounted (state_of program m)
   pub output : whole ≡ written_by table program m steps limit 0

@@ -9,7 +9,7 @@ pub returns-in-Err : goal.returns-in-Err
 returns-in-Err c =
     let source = c.index-sources-number.result in
     let less : c.loop-number.number < length c.args.sources.now = omega (arith, c.loop-number-test.true) in
-    stands-refused (entries_of c.args.sources.now) c.loop-number.number (entry_of source) c.in-Err.stop c.loop-number.ast c.loop-number.unbuilt
+    stands-refused (entries_of c.args.sources.now) c.loop-number.number (entry_of source) c.in-Err.stop c.loop-number.ast
     (rw (length-map c.args.sources.now entry_of) less)
     (get_or-map entry_of c.args.sources.now c.loop-number.number source no_file less ∙ ap entry_of (sym c.index-sources-number.is))
     (rw (← c.as_str.ensures.value, ← c.as_slice-text.ensures) c.in-Err.ensures) c.loop-number.invariant
@@ -18,7 +18,7 @@ pub loop-number-preserved : goal.loop-number-preserved
 loop-number-preserved c =
     let source = c.index-sources-number.result in
     let less : c.loop-number.number < length c.args.sources.now = omega (arith, c.loop-number-test.true) in
-    stands-next (entries_of c.args.sources.now) c.loop-number.number (entry_of source) c.in-Ok.items c.loop-number.ast c.append.new.self c.loop-number.unbuilt c.or_unbuilt-unbuilt.result
+    stands-next (entries_of c.args.sources.now) c.loop-number.number (entry_of source) c.in-Ok.items c.loop-number.ast c.append.new.self
     (rw (length-map c.args.sources.now entry_of) less)
     (get_or-map entry_of c.args.sources.now c.loop-number.number source no_file less ∙ ap entry_of (sym c.index-sources-number.is))
-    (rw (← c.as_str.ensures.value, ← c.as_slice-text.ensures) c.in-Ok.ensures) c.in_ok-append-in-Ok.ensures.ok (rw c.as_slice.ensures at c.or_unbuilt-unbuilt.ensures) c.loop-number.invariant
+    (rw (← c.as_str.ensures.value, ← c.as_slice-text.ensures) c.in-Ok.ensures) c.in_ok-append-in-Ok.ensures.ok c.loop-number.invariant
