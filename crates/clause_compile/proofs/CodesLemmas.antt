@@ -27,7 +27,8 @@ codes-kept g h (x ∷ cs) (k ∷ ks) w c = (
   record {
     variables = c.0.variables;
     pred = c.0.pred;
-    head = compiled-kept x.variables g h x.head (args_of k.head) w c.0.head;
+    low = c.0.low;
+    head = compiled-kept x.head_variables g h x.head (args_of k.head) w c.0.head;
     body = compiled-kept x.variables g h x.body (option_to_list k.body) w c.0.body;
   },
   codes-kept g h cs ks w c.1,

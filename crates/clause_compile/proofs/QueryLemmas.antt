@@ -10,11 +10,12 @@ use Rattle.level_terms.specs.Growth.{Grows}
 use Rattle.level_terms.specs.Reading.{read}
 use Rattle.level_terms.specs.Sound.{IsSound}
 use Rattle.level_terms.specs.Valid.{IsValid}
+use Rattle.clause_compile.specs.inside.Rows.{AreVariables}
 use Rattle.clause_compile.specs.declared.skeleton.Skeleton.{Skeleton}
 use Rattle.clause_compile.specs.Instances.{names, all_read, AllValidAt}
 use Rattle.clause_compile.specs.inside.Meaning.{AreShared, IsCompiled, AreTermsOf}
 use Rattle.clause_compile.proofs.BuiltLemmas.{own-instance}
-use Rattle.clause_compile.proofs.CodeLemmas.{AreVariables, fresh-replaces, shared-grown}
+use Rattle.clause_compile.proofs.CodeLemmas.{fresh-replaces, shared-grown}
 use Rattle.clause_compile.proofs.CodesLemmas.{means-long}
 use Rattle.clause_compile.proofs.CompiledLemmas.{closed-made}
 

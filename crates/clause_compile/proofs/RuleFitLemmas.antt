@@ -1,5 +1,5 @@
 -- What a checked program is: what the static rules leave of its rules.
-use Rattle.std.proofs.Common.{◌≡◌, ◌∙◌, ℕ, zero, suc, ◌<◌, false, List, [], ◌∷◌, ◌++◌, map, length, All, Option, Some, None, refl, ap, ap₂, sym, arith}
+use Rattle.std.proofs.Common.{◌≡◌, ◌∙◌, ℕ, zero, suc, ◌<◌, false, List, [], ◌∷◌, ◌++◌, map, length, All, None, refl, ap, ap₂, sym, arith}
 use Rattle.std.proofs.lemmas.List.{length-map}
 use Rattle.std.specs.List.{flat_map, zip}
 use Rattle.lp_parser.specs.declared.ast.Place.{Place}
@@ -8,13 +8,14 @@ use Rattle.lp_resolve.specs.declared.program.HeadTree.{HeadTree}
 use Rattle.lp_resolve.specs.declared.program.RuleTree.{RuleTree}
 use Rattle.lp_resolve.specs.declared.program.Pred.{Pred}
 use Rattle.ref_terms.specs.declared.tree.Tree.{Tree}
-use Rattle.lp_resolve.specs.StaticRules.{Breach, PlacedHead, first_breach, breaches_at, redeclared, line_breaches, head_breaches, rule_breaches, placed_heads, clause_head, rule_heads, lacks_constant, heads_of, goals_of}
+use Rattle.lp_resolve.specs.StaticRules.{PlacedHead, first_breach, breaches_at, redeclared, line_breaches, head_breaches, rule_breaches, placed_heads, clause_head, rule_heads, lacks_constant, heads_of, goals_of}
 use Rattle.lp_resolve.specs.declared.static_rule.StaticRule.TheVariants.{S1}
 use Rattle.lp_resolve.specs.Occurrences.{occurrences}
 use Rattle.lp_resolve.specs.Laws.{NoneIsBroken}
 use Rattle.lp_resolve.specs.WellFormed.{IsWellFormed, IsRuleFormed, IsHeadFormed}
 use Rattle.clause_compile.specs.inside.RuleCodes.{IsHeadFit, IsRuleFit}
 use Rattle.clause_compile.proofs.FitLemmas.{append-none, head-sound, option-within}
+use Rattle.clause_compile.proofs.OrderLemmas.{rule-ahead}
 
 -- each tree has a constant
 abbrev AllConstant : List Tree → Type 0
@@ -72,8 +73,8 @@ fit-all vars [] w k u l = absurd (let z : k < 0 = l in omega (arith, z))
 fit-all vars (h ∷ hs) w zero u l = w.0
 fit-all vars (h ∷ hs) w (suc k) u l = fit-all vars hs w.1 k u (let z : suc k < suc (length hs) = l in omega (arith, z))
 
-rule-fit : (preds : List (ℕ × Pred)) (r : RuleTree) → IsRuleFormed r → flat_map (head_breaches preds) (rule_heads r) ≡ [] → IsRuleFit r
-rule-fit preds r w e =
+rule-fit : (preds : List (ℕ × Pred)) (r : RuleTree) → IsRuleFormed r → flat_map (head_breaches preds) (rule_heads r) ≡ [] → rule_breaches r ≡ [] → IsRuleFit r
+rule-fit preds r w e f =
     let long : length (goals_of r) ≡ length (heads_of r) = length-map (heads_of r) (λ h. h.goal) in
     let places : length r.places.heads ≡ length (goals_of r) = w.head_places ∙ sym long in
     let vars : length r.places.vars ≡ length (goals_of r) =
@@ -82,15 +83,18 @@ rule-fit preds r w e =
     record {
       kept = fit-all r.vars r.kept (fit-front r.vars r.kept r.removed heads);
       removed = fit-all r.vars r.removed (fit-back r.vars r.kept r.removed heads);
+      earlier = rule-ahead r w f;
       tests = λ k u l. (w.tests k u l).within;
       body = option-within r.vars r.body w.body;
     }
 
-rules-fit : (preds : List (ℕ × Pred)) (rs : List RuleTree) → All IsRuleFormed rs → flat_map (head_breaches preds) (flat_map rule_heads rs) ≡ [] → All IsRuleFit rs
-rules-fit preds [] w e k u l = absurd (let z : k < 0 = l in omega (arith, z))
-rules-fit preds (r ∷ rs) w e zero u l = rule-fit preds r (w zero u l) (flat-front (head_breaches preds) (rule_heads r) (flat_map rule_heads rs) e)
-rules-fit preds (r ∷ rs) w e (suc k) u l =
-    rules-fit preds rs (λ j v m. w (suc j) v (let z : j < length rs = m in omega (arith, z))) (flat-back (head_breaches preds) (rule_heads r) (flat_map rule_heads rs) e) k u (let z : suc k < suc (length rs) = l in omega (arith, z))
+rules-fit : (preds : List (ℕ × Pred)) (rs : List RuleTree) → All IsRuleFormed rs → flat_map (head_breaches preds) (flat_map rule_heads rs) ≡ [] → flat_map rule_breaches rs ≡ [] → All IsRuleFit rs
+rules-fit preds [] w e f k u l = absurd (let z : k < 0 = l in omega (arith, z))
+rules-fit preds (r ∷ rs) w e f zero u l =
+    rule-fit preds r (w zero u l) (flat-front (head_breaches preds) (rule_heads r) (flat_map rule_heads rs) e) (append-none (rule_breaches r) (flat_map rule_breaches rs) f).0
+rules-fit preds (r ∷ rs) w e f (suc k) u l =
+    rules-fit preds rs (λ j v m. w (suc j) v (let z : j < length rs = m in omega (arith, z))) (flat-back (head_breaches preds) (rule_heads r) (flat_map rule_heads rs) e)
+    (append-none (rule_breaches r) (flat_map rule_breaches rs) f).1 k u (let z : suc k < suc (length rs) = l in omega (arith, z))
 
 pub fit-rules : (p : Program) → NoneIsBroken → IsWellFormed p → first_breach p ≡ None → All IsRuleFit p.rules
 fit-rules p none w e =
@@ -99,4 +103,5 @@ fit-rules p none w e =
     let lines = flat_map line_breaches p.decls in
     let heads = flat_map (head_breaches p.preds) (placed_heads p) in
     let rules = flat_map rule_breaches p.rules in
-    rules-fit p.preds p.rules w.rules (flat-back (head_breaches p.preds) (map clause_head p.clauses) (flat_map rule_heads p.rules) (append-none (s1 ++ lines) heads (append-none (s1 ++ lines ++ heads) rules q).0).1)
+    let both = append-none (s1 ++ lines ++ heads) rules q in
+    rules-fit p.preds p.rules w.rules (flat-back (head_breaches p.preds) (map clause_head p.clauses) (flat_map rule_heads p.rules) (append-none (s1 ++ lines) heads both.0).1) both.1

@@ -1,5 +1,5 @@
 -- The code of rules, and what is made of them.
-use Rattle.std.proofs.Common.{◌≡◌, ◌∙◌, ℕ, zero, suc, ◌+◌, ◌<◌, List, [], ◌∷◌, ◌++◌, map, length, take, get_or, slice_get, Option, Some, None, option_map, option_to_list, IfSome, refl, ap, ap₂, sym, subst, arith}
+use Rattle.std.proofs.Common.{◌≡◌, ◌∙◌, ℕ, zero, suc, ◌<◌, List, [], ◌∷◌, ◌++◌, map, length, take, get_or, slice_get, Option, Some, None, option_map, option_to_list, IfSome, refl, ap, ap₂, sym, subst, arith}
 use Rattle.ref_terms.specs.terms.Term.{Term}
 use Rattle.ref_terms.specs.unification.Spine.{args_of}
 use Rattle.ref_terms.specs.search.Front.{term_of}
@@ -10,7 +10,7 @@ use Rattle.level_terms.specs.declared.node.TermId.{TermId}
 use Rattle.level_terms.specs.Graph.{Graph}
 use Rattle.level_terms.specs.Growth.{Grows}
 use Rattle.level_terms.specs.Sound.{IsSound}
-use Rattle.level_terms.specs.Values.{Value, value_of}
+use Rattle.level_terms.specs.Values.{Value}
 use Rattle.level_terms.proofs.MakeLemmas.{value-kept, older-grown}
 use Rattle.level_terms.proofs.ReadLemmas.{valid-below}
 use Rattle.clause_compile.specs.declared.rules.HeadShape.{HeadShape}
@@ -85,6 +85,7 @@ rule-kept g h w c r z = record {
   kept = heads-kept c.variables g h w c.kept r.kept z.kept;
   removed = heads-kept c.variables g h w c.removed r.removed z.removed;
   pairs = z.pairs;
+  earlier = z.earlier;
   body_context = z.body_context;
   body_context_there = z.body_context_there;
   tests = compiled-kept c.variables g h c.tests r.tests w z.tests;
@@ -95,17 +96,22 @@ pub rules-kept : (g h : Graph) → Grows g h [] [] → (cs : List RuleShape) (rs
 rules-kept g h w cs rs z = each-map (IsRuleCode g.nodes) (IsRuleCode h.nodes) (rule-kept g h w) cs rs z
 
 -- what of it needs no heap
-head-shape : (vs : ℕ) (nodes : List Node) (c : HeadShape) (k : RuleHead) → IsHeadCode vs nodes c k → IsHeadShapeOf c k
-head-shape vs nodes c k z = record { context = z.context; pred = z.pred; arity = z.arity }
+context-low : (vs : ℕ) (o p : Option ℕ) → o ≡ p → IfSome p (λ v. v < vs) → IfSome o (λ v. v < vs)
+context-low vs o p e w = subst (λ (q : Option ℕ). IfSome q (λ v. v < vs)) (sym e) w
+
+head-shape : (vs : ℕ) (nodes : List Node) (c : HeadShape) (k : RuleHead) → IsHeadCode vs nodes c k → IsHeadShapeOf vs c k
+head-shape vs nodes c k z = record { context = z.context; low = context-low vs c.context k.context z.context z.context_there; pred = z.pred; arity = z.arity }
 
 pub rule-shape : (nodes : List Node) (c : RuleShape) (r : Rule) → IsRuleCode nodes c r → IsShapeOf c r
 rule-shape nodes c r z = record {
   names = z.names;
   variables = z.variables;
-  kept = each-map (IsHeadCode c.variables nodes) IsHeadShapeOf (head-shape c.variables nodes) c.kept r.kept z.kept;
-  removed = each-map (IsHeadCode c.variables nodes) IsHeadShapeOf (head-shape c.variables nodes) c.removed r.removed z.removed;
+  kept = each-map (IsHeadCode c.variables nodes) (IsHeadShapeOf c.variables) (head-shape c.variables nodes) c.kept r.kept z.kept;
+  removed = each-map (IsHeadCode c.variables nodes) (IsHeadShapeOf c.variables) (head-shape c.variables nodes) c.removed r.removed z.removed;
   pairs = z.pairs;
+  earlier = z.earlier;
   body_context = z.body_context;
+  low = context-low c.variables c.body_context r.body_context z.body_context z.body_context_there;
 }
 
 -- nodes that are made stay

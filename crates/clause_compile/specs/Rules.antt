@@ -1,9 +1,10 @@
 -- The code of a program's rules in a heap, and what calls make of rules.
-use Rattle.std.specs.Prelude.{◌≡◌, ℕ, ◌+◌, ◌++◌, List, map, length, replicate, Option, option_to_list, None, Some}
+use Rattle.std.specs.Prelude.{◌≡◌, ℕ, ◌+◌, ◌<◌, ◌++◌, List, map, length, replicate, Option, option_to_list, None, Some, IfSome}
 use Rattle.ref_terms.specs.terms.Term.{Con}
 use Rattle.ref_terms.specs.unification.Spine.{args_of, head_of}
 use Rattle.ref_terms.specs.search.Program.{Program, Rule, RuleHead}
 use Rattle.ref_terms.specs.search.Instance.{instance, variable_under}
+use Rattle.ref_terms.specs.search.Used.{Every}
 use Rattle.level_terms.specs.declared.node.Node.{Node}
 use Rattle.level_terms.specs.Graph.{Graph}
 use Rattle.level_terms.specs.Reading.{read}
@@ -24,20 +25,23 @@ pub record IsRulesCode (n : ℕ) (g : Graph) (code : Rules) (p : Program) : Type
   pub shared : AreShared n g nodes
   pub rules : AreRuleCodes nodes code.rules p.rules
 
--- what needs no heap of a head: its context, its constant and how many arguments it has
-pub record IsHeadShapeOf (s : HeadShape) (h : RuleHead) : Type 0 where
+-- what needs no heap of a head of a rule with so many variables: its context, its constant and how many arguments it has
+pub record IsHeadShapeOf (variables : ℕ) (s : HeadShape) (h : RuleHead) : Type 0 where
   pub context : s.context ≡ h.context
+  pub low : IfSome s.context (λ v. v < variables)
   pub pred : head_of h.goal ≡ Some (Con s.pred.0)
   pub arity : s.arity ≡ length (args_of h.goal)
 
--- what needs no heap of a rule
+-- what needs no heap of a rule; contexts are among its variables, and each pair is of an earlier head and a later one
 pub record IsShapeOf (s : RuleShape) (r : Rule) : Type 0 where
   pub names : map (λ c. c.0) s.names ≡ r.names
   pub variables : s.variables ≡ r.variables
-  pub kept : Each IsHeadShapeOf s.kept r.kept
-  pub removed : Each IsHeadShapeOf s.removed r.removed
+  pub kept : Each (IsHeadShapeOf s.variables) s.kept r.kept
+  pub removed : Each (IsHeadShapeOf s.variables) s.removed r.removed
   pub pairs : s.pairs ≡ r.pairs
+  pub earlier : Every (λ p. p.left_head < p.right_head) r.pairs
   pub body_context : s.body_context ≡ r.body_context
+  pub low : IfSome s.body_context (λ v. v < s.variables)
 
 -- the node of a context, where there is one: its variable, among those that are numbered from `next` on, made under so many names
 abbrev pub IsContextMade : Graph → (d next : ℕ) → Option TermId → Option ℕ → Type 0

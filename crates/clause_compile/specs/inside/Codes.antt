@@ -1,5 +1,5 @@
 -- The code of clauses.
-use Rattle.std.specs.Prelude.{◌≡◌, List, [], ◌∷◌, option_to_list, Some}
+use Rattle.std.specs.Prelude.{◌≡◌, ◌≤◌, List, [], ◌∷◌, option_to_list, Some}
 use Rattle.ref_terms.specs.terms.Term.{Con}
 use Rattle.ref_terms.specs.unification.Spine.{args_of, head_of}
 use Rattle.ref_terms.specs.search.Program.{Clause}
@@ -11,7 +11,8 @@ use Rattle.clause_compile.specs.declared.skeleton.ClauseCode.{ClauseCode}
 pub record IsClauseCode (nodes : List Node) (code : ClauseCode) (k : Clause) : Type 0 where
   pub variables : code.variables ≡ k.variables
   pub pred : head_of k.head ≡ Some (Con code.pred.0)
-  pub head : IsCompiled code.variables nodes code.head (args_of k.head)
+  pub low : code.head_variables ≤ code.variables
+  pub head : IsCompiled code.head_variables nodes code.head (args_of k.head)
   pub body : IsCompiled code.variables nodes code.body (option_to_list k.body)
 
 -- so of each clause

@@ -1,12 +1,15 @@
 -- The code of rules.
 use Rattle.std.specs.Prelude.{◌≡◌, ℕ, ◌<◌, false, List, [], ◌∷◌, length, map, All, IfSome, option_to_list, Some}
+use Rattle.std.specs.List.{filter_map}
 use Rattle.ref_terms.specs.terms.Term.{Con}
 use Rattle.ref_terms.specs.unification.Spine.{args_of, head_of}
 use Rattle.ref_terms.specs.search.Program.{Rule, RuleHead}
+use Rattle.ref_terms.specs.search.Used.{Every}
 use Rattle.level_terms.specs.declared.node.Node.{Node}
 use Rattle.lp_resolve.specs.declared.program.HeadTree.{HeadTree}
 use Rattle.lp_resolve.specs.declared.program.RuleTree.{RuleTree}
-use Rattle.lp_resolve.specs.StaticRules.{lacks_constant}
+use Rattle.lp_resolve.specs.Plain.{plain_pair}
+use Rattle.lp_resolve.specs.StaticRules.{goals_of, lacks_constant}
 use Rattle.lp_resolve.specs.Trees.{IsWithin, as_term}
 use Rattle.clause_compile.specs.inside.Meaning.{IsCompiled}
 use Rattle.clause_compile.specs.inside.Compiled.{AllWithin}
@@ -38,6 +41,7 @@ pub record IsRuleCode (nodes : List Node) (code : RuleShape) (r : Rule) : Type 0
   pub kept : AreHeadCodes code.variables nodes code.kept r.kept
   pub removed : AreHeadCodes code.variables nodes code.removed r.removed
   pub pairs : code.pairs ≡ r.pairs
+  pub earlier : Every (λ p. p.left_head < p.right_head) r.pairs
   pub body_context : code.body_context ≡ r.body_context
   pub body_context_there : IfSome r.body_context (λ v. v < code.variables)
   pub tests : IsCompiled code.variables nodes code.tests r.tests
@@ -53,9 +57,10 @@ pub record IsHeadFit (variables : ℕ) (h : HeadTree) : Type 0 where
   pub headed : lacks_constant h.goal ≡ false
   pub goal : IsWithin variables 0 (as_term h.goal)
 
--- a rule over its own variables, whose heads have constants
+-- a rule over its own variables, whose heads have constants, and each of whose pairs is of an earlier head and a later one
 pub record IsRuleFit (r : RuleTree) : Type 0 where
   pub kept : All (IsHeadFit r.vars) r.kept
   pub removed : All (IsHeadFit r.vars) r.removed
+  pub earlier : Every (λ p. p.left_head < p.right_head) (filter_map (plain_pair (goals_of r)) r.pairs)
   pub tests : AllWithin r.vars 0 r.tests
   pub body : IfSome r.body (λ t. IsWithin r.vars 0 (as_term t))

@@ -6,9 +6,10 @@ use Rattle.std.proofs.lemmas.List.{length-map}
 use Rattle.level_terms.specs.Reading.{read}
 use Rattle.level_terms.specs.Valid.{IsValid}
 use Rattle.lp_resolve.specs.Plain.{plain_variable}
+use Rattle.clause_compile.specs.inside.Rows.{AreVariables}
 use Rattle.clause_compile.specs.Instances.{names, AllValidAt}
 use Rattle.clause_compile.specs.inside.Meaning.{AreTermsOf}
-use Rattle.clause_compile.proofs.CodeLemmas.{AreVariables, shared-grown, variables-grown, variables-valid, are-fresh}
+use Rattle.clause_compile.proofs.CodeLemmas.{shared-grown, variables-grown, variables-valid, are-fresh}
 use Rattle.clause_compile.proofs.CodesLemmas.{code-skeleton}
 use Rattle.clause_compile.proofs.QueryLemmas.{all-shared, goal-made, first-reads, first-valid}
 use Rattle.clause_compile.proofs.query.query_of.Goals as goal

@@ -11,9 +11,9 @@ use Rattle.clause_compile.specs.declared.rules.HeadShape.{HeadShape}
 use Rattle.clause_compile.specs.Instances.{names, all_read, AllValidAt}
 use Rattle.clause_compile.specs.inside.Meaning.{IsCompiled}
 use Rattle.clause_compile.specs.Rules.{IsContextMade}
-use Rattle.clause_compile.specs.inside.Rows.{IsRow}
+use Rattle.clause_compile.specs.inside.Rows.{AreVariables, IsRow}
 use Rattle.clause_compile.specs.inside.RuleCodes.{AreHeadCodes}
-use Rattle.clause_compile.proofs.CodeLemmas.{AreVariables, shared-grown, are-fresh}
+use Rattle.clause_compile.proofs.CodeLemmas.{shared-grown, are-fresh}
 use Rattle.clause_compile.proofs.CodesLemmas.{option-short}
 use Rattle.clause_compile.proofs.RuleLemmas.{context-made, reads-kept, valid-kept, made-kept}
 use Rattle.clause_compile.proofs.rule_instance.make_rule.Goals as goal

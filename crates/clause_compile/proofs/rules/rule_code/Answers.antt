@@ -1,6 +1,5 @@
-use Rattle.std.proofs.Common.{◌≡◌, ◌∙◌, List, [], All, map, refl, ap, sym, subst, option_to_list}
+use Rattle.std.proofs.Common.{◌∙◌, List, [], All, map, refl, ap, sym, subst}
 use Rattle.ref_terms.specs.search.Front.{term_of}
-use Rattle.ref_terms.specs.search.Program.{RuleHead}
 use Rattle.ref_terms.specs.declared.sym.Sym.{Sym}
 use Rattle.ref_terms.specs.declared.tree.Tree.{Tree}
 use Rattle.level_terms.proofs.GrowthLemmas.{grows-trans}
@@ -42,6 +41,7 @@ returns-clause-code c =
       kept = subst (λ (hs : List HeadTree). AreHeadCodes v i.nodes c.in_ok-kept.kept (map plain_head hs)) c.as_slice.ensures (heads-kept v f i fi c.in_ok-kept.kept _ c.in_ok-kept.ensures.codes);
       removed = subst (λ (hs : List HeadTree). AreHeadCodes v i.nodes c.in_ok-removed.removed (map plain_head hs)) c.as_slice-2.ensures (heads-kept v g i gi c.in_ok-removed.removed _ c.in_ok-removed.ensures.codes);
       pairs = c.in_ok-pairs.ensures;
+      earlier = c.requires.fit.earlier;
       body_context = refl;
       body_context_there = tt;
       tests = subst (λ (ts : List Tree). IsCompiled v i.nodes c.in_ok-tests.tests (map (term_of 0) ts)) c.as_slice-3.ensures (compiled-kept v h i c.in_ok-tests.tests _ hi c.in_ok-tests.ensures.skeleton);

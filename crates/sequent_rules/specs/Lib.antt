@@ -1,0 +1,4 @@
+pub mod Branches
+pub mod Rules
+pub mod Instances
+pub mod inside

@@ -1,0 +1,9 @@
+pub mod Bodies
+pub mod Equations
+pub mod Fitting
+pub mod Heads
+pub mod Lists
+pub mod Matched
+pub mod Scans
+pub mod Stages
+pub mod Tuples
