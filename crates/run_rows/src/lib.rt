@@ -1,5 +1,5 @@
-//! Whole runs over files and a sink in memory: the worked rows, a line each, constraint rules, the words and options, several files, failing
-//! reads and writes, and the limits.
+//! Whole runs over files and a sink in memory: the worked rows, a line each, constraint rules, types, the words and options,
+//! several files, failing reads and writes, and the limits.
 //!
 //! The crate has tests alone. Expected values are by hand.
 #![tactic(auto)]
@@ -22,3 +22,5 @@ mod rules;
 mod runs;
 #[cfg(test)]
 mod several;
+#[cfg(test)]
+mod types;

@@ -1,6 +1,5 @@
 //! The words of the command line: those that are bad, and options of a search.
-use crate::runs::{expect_run, expect_same, run_with};
-use lam_io::ByteText;
+use crate::runs::{expect_run, expect_same, expect_words, run_with};
 use std::test::Fail;
 
 /// The words, and the index of the bad one.
@@ -35,7 +34,10 @@ gen¦100001 ⇒ 1
 gen¦00000000001 ⇒ 1
 gen¦--query¦p ⇒ 1
 gen¦20¦a ⇒ 2
-check¦a ⇒ 0
+check ⇒ 1
+check¦--query¦a ⇒ 1
+check¦a¦--steps ⇒ 2
+check¦1¦2¦3¦4¦5¦6¦7¦8¦9¦10¦11¦12¦13¦14¦15¦16¦17 ⇒ 17
 certify¦a ⇒ 0";
 
 #[test]
@@ -65,15 +67,7 @@ p :- p. ⇒ run¦--query¦p¦--steps¦100¦a ⇒ out of steps / 5
 
 #[test]
 fn options_bound_a_search(rt: HostRuntime) -> Result<(), Fail> {
-    let alloc = rt.alloc();
-    for row in OPTIONS.lines() {
-        let (program, rest) = row.split_once('⇒').ok_or("no words")?;
-        let (words, wanted) = rest.split_once('⇒').ok_or("no output")?;
-        let text = ByteText::from_slice(alloc, program.trim().as_bytes())?;
-        let found = run_with(alloc, words.trim(), Some(text), 0, (0, 0))?;
-        expect_same(words, found.as_str(), wanted.trim())?;
-    }
-    Ok(())
+    expect_words(rt.alloc(), OPTIONS)
 }
 
 #[test]

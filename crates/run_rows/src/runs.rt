@@ -104,6 +104,19 @@ pub(crate) fn expect_same(case: &str, shown: &str, wanted: &str) -> Result<(), F
     }
 }
 
+/// Fails where a row of the table doesn't write what it wants: a program, which stands in `a`, the words, and the output with
+/// the status.
+pub(crate) fn expect_words(alloc: Global, table: &str) -> Result<(), Fail> {
+    for row in table.lines() {
+        let (program, rest) = row.split_once('⇒').ok_or("no words")?;
+        let (words, wanted) = rest.split_once('⇒').ok_or("no output")?;
+        let text = ByteText::from_slice(alloc, program.trim().as_bytes())?;
+        let found = run_with(alloc, words.trim(), Some(text), 0, (0, 0))?;
+        expect_same(words, found.as_str(), wanted.trim())?;
+    }
+    Ok(())
+}
+
 /// Fails where the query over the program in `a` doesn't write what is wanted, with its status.
 pub(crate) fn expect_run(
     alloc: Global,
