@@ -1,4 +1,4 @@
-% `kind` and `type` lines, and the types of a `pred`, are read and not checked; a number of arguments is.
+% `run` reads `kind` and `type` lines and the types of a `pred`, and checks numbers of arguments alone; `check` refuses this.
 kind nat type.
 type z nat.
 pred double i:nat, o:nat.
